@@ -1,0 +1,36 @@
+use mathlib.Core.Path.{sym, ap, _∙_}
+use Prim.Native.Nat.{ℕ}
+use Rattle.text.specs.Text.{sameText}
+use Rattle.lookup.proofs.Keys.{pattern-same, pattern-other}
+use borrow.Author.Needs.{needs}
+use Rattle.lookup.proofs.answers_pattern.Statement.{statement}
+use Rattle.lookup.proofs.answers_pattern.Tie as tie
+
+pattern-text-requires : tie.Need-pattern-text-requires
+pattern-text-requires c κs = search needs
+
+same-text-requires : tie.Need-same-text-requires
+same-text-requires c κs = search needs
+
+subject-text-requires : tie.Need-subject-text-requires
+subject-text-requires c κs = search needs
+
+same-text-requires-2 : tie.Need-same-text-requires-2
+same-text-requires-2 c κs = search needs
+
+returns : tie.Need-returns
+returns c = c .same-text2 .ensures ∙ ap (λ (t : ℕ). sameText (c .before .before .before .before .before .before .before .before .args .pool .now) (c .before .before .before .before .before .before .before .before .args .texts .now) t (c .before .before .before .before .before .before .before .before .args .subject)) (c .before .subject-text .ensures) ∙ sym (pattern-same _ _ _ _ _ _ (cc))
+
+returns-2 : tie.Need-returns-2
+returns-2 c = sym (pattern-other _ _ _ _ _ _ (cc))
+
+pub answers-pattern-spec : {M : Type 1} → statement M
+answers-pattern-spec =
+    tie.close
+    (tie.spec
+    pattern-text-requires
+    same-text-requires
+    subject-text-requires
+    same-text-requires-2
+    returns
+    returns-2)

@@ -1,0 +1,24 @@
+use mathlib.Core.Path.{sym, _∙_}
+use Rattle.lookup.proofs.Keys.{key-string, key-other}
+use borrow.Author.Needs.{needs}
+use Rattle.lookup.proofs.key_is.Statement.{statement}
+use Rattle.lookup.proofs.key_is.Tie as tie
+
+node-kind-requires : tie.Need-node-kind-requires
+node-kind-requires c κs = search needs
+
+node-a-requires : tie.Need-node-a-requires
+node-a-requires c κs = search needs
+
+same-text-requires : tie.Need-same-text-requires
+same-text-requires c κs = search needs
+
+returns : tie.Need-returns
+returns c = cc (key-string _ _ _ (c .before .before .before .before .before .before .before .args .text) _ (sym (c .before .before .before .node-kind .ensures) ∙ c .before .before .if1 .taken))
+
+returns-2 : tie.Need-returns-2
+returns-2 c = sym (key-other _ _ _ _ _ (λ e. c .if1 .left (c .before .node-kind .ensures ∙ e)))
+
+pub key-is-spec : {M : Type 1} → statement M
+key-is-spec =
+    tie.close (tie.spec node-kind-requires node-a-requires same-text-requires returns returns-2)

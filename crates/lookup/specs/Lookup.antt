@@ -1,0 +1,57 @@
+-- What is found by a text: an object's entry, a property, a registry entry, a pattern's answer. Texts are compared by bytes. Assumes nothing.
+use Prim.Native.Nat.{ℕ}
+use mathlib.Core.List.{List}
+use mathlib.Core.Bool.{Bool}
+use lib.Dec.{eqb}
+use Rattle.text.specs.Choice.{both}
+use Rattle.text.specs.Text.{sameText}
+use Rattle.layout.specs.Layout.{nodeKind, nodeA, nodeB, pairKey, pairValue, entryText, entrySchema, entryCount, patternText, subjectText, patternAnswer, patternCount}
+use Rattle.lookup.specs.declared.Found.{Found}
+use Rattle.lookup.specs.Find.{lastBelow, firstFrom, foundAt}
+
+-- a node is a string with these bytes
+unfoldable pub keyIs : List ℕ → List ℕ → List ℕ → ℕ → ℕ → Bool
+keyIs pool texts nodes text key = both (eqb (nodeKind nodes key) 4) (sameText pool texts (nodeA nodes key) text)
+
+-- entry k of the object n: its key node, and its value node
+unfoldable pub entryKey : List ℕ → List ℕ → ℕ → ℕ → ℕ
+entryKey nodes links n k = pairKey links (nodeA nodes n) k
+
+unfoldable pub entryValue : List ℕ → List ℕ → ℕ → ℕ → ℕ
+entryValue nodes links n k = pairValue links (nodeA nodes n) k
+
+-- entry k of the object n has that string key
+unfoldable pub entryHasKey : List ℕ → List ℕ → List ℕ → List ℕ → ℕ → ℕ → ℕ → Bool
+entryHasKey pool texts nodes links n text k = keyIs pool texts nodes text (entryKey nodes links n k)
+
+-- navigation, JSON equality: the last entry with that string key
+unfoldable pub lastEntry : List ℕ → List ℕ → List ℕ → List ℕ → ℕ → ℕ → Found
+lastEntry pool texts nodes links n text = lastBelow (entryHasKey pool texts nodes links n text) (nodeB nodes n)
+
+-- pair k of a list of pairs has that key
+unfoldable pub pairHasKey : List ℕ → List ℕ → List ℕ → ℕ → ℕ → ℕ → Bool
+pairHasKey pool texts links first text k = sameText pool texts (pairKey links first k) text
+
+-- the schema of a property: keys of one list differ, so there is one at most
+unfoldable pub propertyOf : List ℕ → List ℕ → List ℕ → ℕ → ℕ → ℕ → Found
+propertyOf pool texts links first count text =
+    foundAt (pairValue links first) (firstFrom (pairHasKey pool texts links first text) 0 count)
+
+-- registry entry i has that name
+unfoldable pub entryIsNamed : List ℕ → List ℕ → List ℕ → ℕ → ℕ → Bool
+entryIsNamed pool texts registry text i = sameText pool texts (entryText registry i) text
+
+-- ref: the last registry entry of that name
+unfoldable pub resolveOf : List ℕ → List ℕ → List ℕ → ℕ → Found
+resolveOf pool texts registry text =
+    foundAt (entrySchema registry) (lastBelow (entryIsNamed pool texts registry text) (entryCount registry))
+
+-- answer entry i is for that pattern and that subject
+unfoldable pub answersPattern : List ℕ → List ℕ → List ℕ → ℕ → ℕ → ℕ → Bool
+answersPattern pool texts patterns pattern subject i =
+    both (sameText pool texts (patternText patterns i) pattern) (sameText pool texts (subjectText patterns i) subject)
+
+-- string: the first answer entry with equal pattern and subject
+unfoldable pub answerOfPattern : List ℕ → List ℕ → List ℕ → ℕ → ℕ → Found
+answerOfPattern pool texts patterns pattern subject =
+    foundAt (patternAnswer patterns) (firstFrom (answersPattern pool texts patterns pattern subject) 0 (patternCount patterns))

@@ -1,0 +1,151 @@
+// What is found by a text, compared by bytes: an object's entry, a property, a registry entry, a pattern's answer.
+ghost use mathlib.Core.Path.{_≡_};
+ghost use Rattle.lookup.specs.Lookup.{
+  keyIs,
+  entryKey,
+  entryValue,
+  entryHasKey,
+  lastEntry,
+  propertyOf,
+  resolveOf,
+  answersPattern,
+  answerOfPattern,
+};
+use layout::links;
+use layout::words;
+
+pub enum Found {
+    At(u32),
+    Nothing,
+}
+
+// Whether a node is a string with the bytes of that text.
+pub fn key_is(pool: &[u8], texts: &[u32], nodes: &[u32], text: u32, key: u32) -> bool
+    ensures { λ r. ⌜ r ≡ keyIs (now (pool .entry)) (now (texts .entry)) (now (nodes .entry)) text key ⌝ }
+{
+    if words::node_kind(nodes, key) == 4 {
+        return text::same_text(pool, texts, words::node_a(nodes, key), text);
+    }
+    false
+}
+
+// The key node of an object's entry k.
+pub fn entry_key(nodes: &[u32], links: &[u32], n: u32, k: u32) -> u32
+    ensures { λ r. ⌜ r ≡ entryKey (now (nodes .entry)) (now (links .entry)) n k ⌝ }
+{
+    links::pair_key(links, words::node_a(nodes, n), k)
+}
+
+// The value node of an object's entry k.
+pub fn entry_value(nodes: &[u32], links: &[u32], n: u32, k: u32) -> u32
+    ensures { λ r. ⌜ r ≡ entryValue (now (nodes .entry)) (now (links .entry)) n k ⌝ }
+{
+    links::pair_value(links, words::node_a(nodes, n), k)
+}
+
+fn entry_has_key(
+    pool: &[u8],
+    texts: &[u32],
+    nodes: &[u32],
+    links: &[u32],
+    n: u32,
+    text: u32,
+    k: u32,
+) -> bool
+    ensures { λ r. ⌜ r ≡ entryHasKey (now (pool .entry)) (now (texts .entry)) (now (nodes .entry)) (now (links .entry)) n text k ⌝ }
+{
+    key_is(pool, texts, nodes, text, entry_key(nodes, links, n, k))
+}
+
+// The last entry of an object with that string key.
+pub fn last_entry(
+    pool: &[u8],
+    texts: &[u32],
+    nodes: &[u32],
+    links: &[u32],
+    n: u32,
+    text: u32,
+) -> Found
+    ensures { λ r. ⌜ r ≡ lastEntry (now (pool .entry)) (now (texts .entry)) (now (nodes .entry)) (now (links .entry)) n text ⌝ }
+{
+    let mut k = words::node_b(nodes, n);
+    while 0 < k {
+        k -= 1;
+        if entry_has_key(pool, texts, nodes, links, n, text, k) {
+            return Found::At(k);
+        }
+    }
+    Found::Nothing
+}
+
+// The schema of a property of that name.
+pub fn property(
+    pool: &[u8],
+    texts: &[u32],
+    links: &[u32],
+    first: u32,
+    count: u32,
+    text: u32,
+) -> Found
+    ensures { λ r. ⌜ r ≡ propertyOf (now (pool .entry)) (now (texts .entry)) (now (links .entry)) first count text ⌝ }
+{
+    let mut k = 0;
+    while k < count {
+        if text::same_text(pool, texts, links::pair_key(links, first, k), text) {
+            return Found::At(links::pair_value(links, first, k));
+        }
+        k += 1;
+    }
+    Found::Nothing
+}
+
+// The schema of the last registry entry of that name.
+pub fn resolve(pool: &[u8], texts: &[u32], registry: &[u32], text: u32) -> Found
+    ensures { λ r. ⌜ r ≡ resolveOf (now (pool .entry)) (now (texts .entry)) (now (registry .entry)) text ⌝ }
+{
+    let mut i = words::entry_count(registry);
+    while 0 < i {
+        i -= 1;
+        if text::same_text(pool, texts, words::entry_text(registry, i), text) {
+            return Found::At(words::entry_schema(registry, i));
+        }
+    }
+    Found::Nothing
+}
+
+fn answers_pattern(
+    pool: &[u8],
+    texts: &[u32],
+    patterns: &[u32],
+    pattern: u32,
+    subject: u32,
+    i: usize,
+) -> bool
+    ensures { λ r. ⌜ r ≡ answersPattern (now (pool .entry)) (now (texts .entry)) (now (patterns .entry)) pattern subject i ⌝ }
+{
+    if text::same_text(pool, texts, words::pattern_text(patterns, i), pattern) {
+        return text::same_text(pool, texts, words::subject_text(patterns, i), subject);
+    }
+    false
+}
+
+// The first answer to that pattern and subject: 0 no, 1 match, 2 invalid.
+pub fn pattern_answer(
+    pool: &[u8],
+    texts: &[u32],
+    patterns: &[u32],
+    pattern: u32,
+    subject: u32,
+) -> Found
+    ensures { λ r. ⌜ r ≡ answerOfPattern (now (pool .entry)) (now (texts .entry)) (now (patterns .entry)) pattern subject ⌝ }
+{
+    let n = words::pattern_count(patterns);
+    let mut i = 0;
+    while i < n {
+        if answers_pattern(pool, texts, patterns, pattern, subject, i) {
+            return Found::At(words::pattern_answer(patterns, i));
+        }
+        i += 1;
+    }
+    Found::Nothing
+}

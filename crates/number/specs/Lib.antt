@@ -1,0 +1,4 @@
+pub mod Nearest
+pub mod Pattern
+pub mod Check
+pub mod Equal

@@ -1,0 +1,4 @@
+pub mod Walked
+pub mod Below
+pub mod Rules
+pub mod Faults

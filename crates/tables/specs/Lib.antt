@@ -1,0 +1,5 @@
+pub mod Lists
+pub mod Records
+pub mod Schemas
+pub mod Check
+pub mod Facts

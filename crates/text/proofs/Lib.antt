@@ -1,0 +1,4 @@
+pub mod Bytes
+pub mod Texts
+pub mod Octet
+pub mod Grammar

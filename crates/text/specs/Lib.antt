@@ -1,0 +1,3 @@
+pub mod Choice
+pub mod Text
+pub mod Utf8
