@@ -1,7 +1,8 @@
 -- What is found by a text: an object's entry, a property, a registry entry, a pattern's answer. Texts are compared by bytes. Assumes nothing.
-use Prim.Native.Nat.{ℕ}
+use Prim.Native.Nat.{ℕ, _+_}
 use mathlib.Core.List.{List}
 use mathlib.Core.Bool.{Bool}
+use lib.ListN.{getD}
 use lib.Dec.{eqb}
 use Rattle.text.specs.Choice.{both}
 use Rattle.text.specs.Text.{sameText}
@@ -19,6 +20,10 @@ entryKey nodes links n k = pairKey links (nodeA nodes n) k
 
 unfoldable pub entryValue : List ℕ → List ℕ → ℕ → ℕ → ℕ
 entryValue nodes links n k = pairValue links (nodeA nodes n) k
+
+-- item k of the array n
+unfoldable pub itemNode : List ℕ → List ℕ → ℕ → ℕ → ℕ
+itemNode nodes links n k = getD links (nodeA nodes n + k) 0
 
 -- entry k of the object n has that string key
 unfoldable pub entryHasKey : List ℕ → List ℕ → List ℕ → List ℕ → ℕ → ℕ → ℕ → Bool

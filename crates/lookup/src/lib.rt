@@ -4,6 +4,7 @@ ghost use Rattle.lookup.specs.Lookup.{
   keyIs,
   entryKey,
   entryValue,
+  itemNode,
   entryHasKey,
   lastEntry,
   propertyOf,
@@ -41,6 +42,14 @@ pub fn entry_value(nodes: &[u32], links: &[u32], n: u32, k: u32) -> u32
     ensures { λ r. ⌜ r ≡ entryValue (now (nodes .entry)) (now (links .entry)) n k ⌝ }
 {
     links::pair_value(links, words::node_a(nodes, n), k)
+}
+
+// The node of an array's item k.
+pub fn item(nodes: &[u32], links: &[u32], n: u32, k: u32) -> u32
+    ensures { λ r. ⌜ r ≡ itemNode (now (nodes .entry)) (now (links .entry)) n k ⌝ }
+{
+    let first = words::node_a(nodes, n);
+    text::word(links, (first as usize) + (k as usize))
 }
 
 fn entry_has_key(

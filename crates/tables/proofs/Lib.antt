@@ -2,3 +2,4 @@ pub mod Walked
 pub mod Below
 pub mod Rules
 pub mod Faults
+pub mod Facts

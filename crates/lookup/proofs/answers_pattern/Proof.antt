@@ -1,6 +1,4 @@
-use mathlib.Core.Path.{sym, ap, _∙_}
-use Prim.Native.Nat.{ℕ}
-use Rattle.text.specs.Text.{sameText}
+use mathlib.Core.Path.{sym, _∙_}
 use Rattle.lookup.proofs.Keys.{pattern-same, pattern-other}
 use borrow.Author.Needs.{needs}
 use Rattle.lookup.proofs.answers_pattern.Statement.{statement}
@@ -19,10 +17,10 @@ same-text-requires-2 : tie.Need-same-text-requires-2
 same-text-requires-2 c κs = search needs
 
 returns : tie.Need-returns
-returns c = c .same-text2 .ensures ∙ ap (λ (t : ℕ). sameText (c .before .before .before .before .before .before .before .before .args .pool .now) (c .before .before .before .before .before .before .before .before .args .texts .now) t (c .before .before .before .before .before .before .before .before .args .subject)) (c .before .subject-text .ensures) ∙ sym (pattern-same _ _ _ _ _ _ (cc))
+returns c = pattern-same _ _ _ _ _ _ (c .before .before .before .before .pattern-text .ensures) (sym (c .before .before .before .same-text .ensures) ∙ c .before .before .if1 .taken) (c .before .subject-text .ensures) (c .same-text2 .ensures)
 
 returns-2 : tie.Need-returns-2
-returns-2 c = sym (pattern-other _ _ _ _ _ _ (cc))
+returns-2 c = pattern-other _ _ _ _ _ _ (c .before .before .pattern-text .ensures) (sym (c .before .same-text .ensures) ∙ c .if1 .left)
 
 pub answers-pattern-spec : {M : Type 1} → statement M
 answers-pattern-spec =

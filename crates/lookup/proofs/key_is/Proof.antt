@@ -1,4 +1,3 @@
-use mathlib.Core.Path.{sym, _∙_}
 use Rattle.lookup.proofs.Keys.{key-string, key-other}
 use borrow.Author.Needs.{needs}
 use Rattle.lookup.proofs.key_is.Statement.{statement}
@@ -14,10 +13,10 @@ same-text-requires : tie.Need-same-text-requires
 same-text-requires c κs = search needs
 
 returns : tie.Need-returns
-returns c = cc (key-string _ _ _ (c .before .before .before .before .before .before .before .args .text) _ (sym (c .before .before .before .node-kind .ensures) ∙ c .before .before .if1 .taken))
+returns c = key-string _ _ _ _ _ (c .before .before .before .node-kind .ensures) (c .before .before .if1 .taken) (c .before .node-a .ensures) (c .same-text .ensures)
 
 returns-2 : tie.Need-returns-2
-returns-2 c = sym (key-other _ _ _ _ _ (λ e. c .if1 .left (c .before .node-kind .ensures ∙ e)))
+returns-2 c = key-other _ _ _ _ _ (c .before .node-kind .ensures) (c .if1 .left)
 
 pub key-is-spec : {M : Type 1} → statement M
 key-is-spec =

@@ -1,7 +1,7 @@
+use mathlib.Core.Path.{_≡_, sym, ap, _∙_}
 use Prim.Native.Nat.{_-_}
 use Rattle.layout.specs.Layout.{patternCount, patternAnswer}
 use Rattle.lookup.specs.declared.Found.the-variants.{At}
-use mathlib.Core.Path.{_≡_, ap, _∙_}
 use borrow.Author.Needs.{needs}
 use Rattle.lookup.specs.Find.{firstFrom, foundAt}
 use Rattle.lookup.specs.Lookup.{answersPattern, answerOfPattern}
@@ -29,7 +29,7 @@ pattern-answer-requires c κs = search needs
 
 returns : tie.Need-returns Inv-loop μ-loop
 unfolding answerOfPattern
-returns c = ap At (c .pattern-answer .ensures) ∙ ap (foundAt (patternAnswer (c .before .before .before .before .before .before .before .before .before .args .patterns .now))) (first-stop _ _ _ (c .before .before .before .before .loop .inv .1) (c .before .before .before .loop-test .taken) (cc))
+returns c = ap At (c .pattern-answer .ensures) ∙ ap (foundAt (patternAnswer (c .before .before .before .before .before .before .before .before .before .args .patterns .now))) (first-stop _ _ _ (c .before .before .before .before .loop .inv .1) (c .before .before .before .loop-test .taken) (sym (c .before .before .answers-pattern .ensures) ∙ c .before .if1 .taken))
 
 add-i : tie.Need-add-i Inv-loop μ-loop
 add-i c = search needs
@@ -38,7 +38,7 @@ loop-less : tie.Need-loop-less Inv-loop μ-loop
 loop-less c = search needs
 
 loop-again : tie.Need-loop-again Inv-loop μ-loop
-loop-again c = (c .before .before .before .loop .inv .0, first-more _ _ _ (c .before .before .before .loop .inv .1) (c .before .before .loop-test .taken) (cc))
+loop-again c = (c .before .before .before .loop .inv .0, first-more _ _ _ (c .before .before .before .loop .inv .1) (c .before .before .loop-test .taken) (sym (c .before .answers-pattern .ensures) ∙ c .if1 .left))
 
 returns-2 : tie.Need-returns-2 Inv-loop μ-loop
 unfolding answerOfPattern

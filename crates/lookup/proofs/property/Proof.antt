@@ -1,6 +1,7 @@
+use Rattle.lookup.proofs.Keys.{pair-named}
+use mathlib.Core.Path.{_≡_, refl, sym, ap, _∙_}
 use Rattle.layout.specs.Layout.{pairValue}
 use Rattle.lookup.specs.declared.Found.the-variants.{At}
-use mathlib.Core.Path.{_≡_, refl, ap, _∙_}
 use Prim.Native.Nat.{_-_}
 use borrow.Author.Needs.{needs}
 use Rattle.lookup.specs.Find.{firstFrom, foundAt}
@@ -28,8 +29,8 @@ pair-value-requires : tie.Need-pair-value-requires Inv-loop μ-loop
 pair-value-requires c κs = search needs
 
 returns : tie.Need-returns Inv-loop μ-loop
-unfolding propertyOf pairHasKey
-returns c = ap At (c .pair-value .ensures) ∙ ap (foundAt (pairValue (c .before .before .before .before .before .before .before .before .before .args .links .now) (c .before .before .before .before .before .before .before .before .before .args .first))) (first-stop _ _ _ (c .before .before .before .before .before .loop .inv) (c .before .before .before .before .loop-test .taken) (cc))
+unfolding propertyOf
+returns c = ap At (c .pair-value .ensures) ∙ ap (foundAt (pairValue (c .before .before .before .before .before .before .before .before .before .args .links .now) (c .before .before .before .before .before .before .before .before .before .args .first))) (first-stop _ _ _ (c .before .before .before .before .before .loop .inv) (c .before .before .before .before .loop-test .taken) (pair-named _ _ _ _ _ _ (c .before .before .before .pair-key .ensures) (sym (c .before .before .same-text .ensures) ∙ c .before .if1 .taken)))
 
 add-k : tie.Need-add-k Inv-loop μ-loop
 add-k c = search needs
@@ -38,8 +39,7 @@ loop-less : tie.Need-loop-less Inv-loop μ-loop
 loop-less c = search needs
 
 loop-again : tie.Need-loop-again Inv-loop μ-loop
-unfolding pairHasKey
-loop-again c = first-more _ _ _ (c .before .before .before .before .loop .inv) (c .before .before .before .loop-test .taken) (cc)
+loop-again c = first-more _ _ _ (c .before .before .before .before .loop .inv) (c .before .before .before .loop-test .taken) (pair-named _ _ _ _ _ _ (c .before .before .pair-key .ensures) (sym (c .before .same-text .ensures) ∙ c .if1 .left))
 
 returns-2 : tie.Need-returns-2 Inv-loop μ-loop
 unfolding propertyOf

@@ -1,5 +1,6 @@
+use Rattle.lookup.proofs.Keys.{entry-named}
+use mathlib.Core.Path.{_≡_, sym, ap, _∙_}
 use Rattle.lookup.specs.declared.Found.the-variants.{At}
-use mathlib.Core.Path.{_≡_, ap, _∙_}
 use borrow.Author.Needs.{needs}
 use Rattle.layout.specs.Layout.{entrySchema, entryCount}
 use Rattle.lookup.specs.Find.{lastBelow, foundAt}
@@ -18,7 +19,7 @@ entry-count-requires : tie.Need-entry-count-requires Inv-loop μ-loop
 entry-count-requires c κs = search needs
 
 loop-holds : tie.Need-loop-holds Inv-loop μ-loop
-loop-holds c = cc
+loop-holds c = ap (lastBelow (entryIsNamed (c .before .before .before .before .args .pool .now) (c .before .before .before .before .args .texts .now) (c .before .before .before .before .args .registry .now) (c .before .before .before .before .args .text))) (c .entry-count .ensures)
 
 sub-i : tie.Need-sub-i Inv-loop μ-loop
 sub-i c = search needs
@@ -33,15 +34,14 @@ entry-schema-requires : tie.Need-entry-schema-requires Inv-loop μ-loop
 entry-schema-requires c κs = search needs
 
 returns : tie.Need-returns Inv-loop μ-loop
-unfolding resolveOf entryIsNamed
-returns c = ap At (c .entry-schema .ensures) ∙ ap (foundAt (entrySchema (c .before .before .before .before .before .before .before .before .before .before .args .registry .now))) (last-stop _ _ (c .before .before .before .before .before .loop .inv) (c .before .before .before .before .loop-test .taken) (cc))
+unfolding resolveOf
+returns c = ap At (c .entry-schema .ensures) ∙ ap (foundAt (entrySchema (c .before .before .before .before .before .before .before .before .before .before .args .registry .now))) (last-stop _ _ (c .before .before .before .before .before .loop .inv) (c .before .before .before .before .loop-test .taken) (entry-named _ _ _ _ _ (c .before .before .before .entry-text .ensures) (sym (c .before .before .same-text .ensures) ∙ c .before .if1 .taken)))
 
 loop-less : tie.Need-loop-less Inv-loop μ-loop
 loop-less c = search needs
 
 loop-again : tie.Need-loop-again Inv-loop μ-loop
-unfolding entryIsNamed
-loop-again c = last-more _ _ (c .before .before .before .before .loop .inv) (c .before .before .before .loop-test .taken) (cc)
+loop-again c = last-more _ _ (c .before .before .before .before .loop .inv) (c .before .before .before .loop-test .taken) (entry-named _ _ _ _ _ (c .before .before .entry-text .ensures) (sym (c .before .same-text .ensures) ∙ c .if1 .left))
 
 returns-2 : tie.Need-returns-2 Inv-loop μ-loop
 unfolding resolveOf

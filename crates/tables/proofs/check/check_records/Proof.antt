@@ -7,11 +7,6 @@ use Rattle.tables.specs.Check.{recordsFrom, recordsFault}
 use Rattle.tables.proofs.Faults.{count-small, records-start, records-more, records-stop, records-end}
 use Rattle.tables.proofs.check.check_records.Statement.{statement}
 use Rattle.tables.proofs.check.check_records.Tie as tie
-use Rattle.tables.proofs.check.check_records.Reads as reads
-use Rattle.tables.proofs.check.check_records.Lts as lts
-use Rattle.tables.proofs.check.counts.Reads as counts-reads
-use Rattle.tables.proofs.check.first_bad.Reads as first-bad-reads
-use Rattle.tables.proofs.check.record_count.Reads as record-count-reads
 
 abbrev Inv-loop : tie.InvT-loop
 Inv-loop pool texts nodes notes schemas registry patterns links numbers z table₀ table = (1 ≤ table) × (table ≤ 7) × (recordsFrom z (tables pool texts nodes notes schemas registry patterns links numbers) table (7 - table) ≡ recordsFault (tables pool texts nodes notes schemas registry patterns links numbers))
@@ -19,43 +14,33 @@ Inv-loop pool texts nodes notes schemas registry patterns links numbers z table�
 abbrev μ-loop : tie.MeasureT-loop
 μ-loop pool texts nodes notes schemas registry patterns links numbers z table₀ table = 7 - table
 
--- src/check.rt:217:9
 counts-requires : tie.Need-counts-requires Inv-loop μ-loop
 counts-requires c κs = search needs
 
--- src/check.rt:219:5
 loop-holds : tie.Need-loop-holds Inv-loop μ-loop
 loop-holds c = (search needs, search needs, records-start _ (c .counts .ensures))
 
--- src/check.rt:220:17
 record-count-requires : tie.Need-record-count-requires Inv-loop μ-loop
 record-count-requires c κs = search needs
 
--- src/check.rt:220:17
 cast-n : tie.Need-cast-n Inv-loop μ-loop
 cast-n c = omega (arith, count-small _ (c .before .before .before .before .before .before .before .before .before .before .before .before .before .pre) (c .before .before .loop .table), c .record-count .ensures)
 
--- src/check.rt:232:13
 first-bad-requires : tie.Need-first-bad-requires Inv-loop μ-loop
 first-bad-requires c κs = search needs
 
--- src/check.rt:247:13
 returns : tie.Need-returns Inv-loop μ-loop
 returns c = records-stop _ _ _ (c .before .before .before .before .loop .inv .2) (c .before .before .record-count .ensures) (c .before .first-bad .ensures) (c .before .before .before .loop-test .taken) (c .if1 .taken)
 
--- src/check.rt:249:9
 add-table : tie.Need-add-table Inv-loop μ-loop
 add-table c = omega (arith, c .before .before .before .loop-test .taken)
 
--- src/check.rt:219:5
 loop-less : tie.Need-loop-less Inv-loop μ-loop
 loop-less c = omega (arith, c .before .before .before .loop-test .taken)
 
--- src/check.rt:219:5
 loop-again : tie.Need-loop-again Inv-loop μ-loop
 loop-again c = (omega (arith, c .before .before .before .before .loop .inv .0), omega (arith, c .before .before .before .loop-test .taken), records-more _ _ _ (c .before .before .before .before .loop .inv .2) (c .before .before .record-count .ensures) (c .before .first-bad .ensures) (c .before .before .before .loop-test .taken) (c .if1 .left))
 
--- src/check.rt:203:1
 returns-2 : tie.Need-returns-2 Inv-loop μ-loop
 returns-2 c = records-end _ _ _ (c .before .loop .inv .2) (c .loop-test .left)
 

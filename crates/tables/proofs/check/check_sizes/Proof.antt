@@ -2,61 +2,43 @@ use Rattle.tables.specs.Check.{sizesFault}
 use borrow.Author.Needs.{needs}
 use Rattle.tables.proofs.check.check_sizes.Statement.{statement}
 use Rattle.tables.proofs.check.check_sizes.Tie as tie
-use Rattle.tables.proofs.check.check_sizes.Reads as reads
-use Rattle.tables.proofs.check.check_sizes.Lts as lts
-use Rattle.tables.proofs.check.size_or.Reads as size-or-reads
-use Rattle.tables.proofs.check.texts_size.Reads as texts-size-reads
-use Rattle.tables.proofs.check.whole_size.Reads as whole-size-reads
 
--- src/check.rt:85:9
 whole-size-requires : tie.Need-whole-size-requires
 whole-size-requires c κs = search needs
 
--- src/check.rt:86:9
 whole-size-requires-2 : tie.Need-whole-size-requires-2
 whole-size-requires-2 c κs = search needs
 
--- src/check.rt:87:9
 whole-size-requires-3 : tie.Need-whole-size-requires-3
 whole-size-requires-3 c κs = search needs
 
--- src/check.rt:88:9
 size-or-requires : tie.Need-size-or-requires
 size-or-requires c κs = search needs
 
--- src/check.rt:89:9
 size-or-requires-2 : tie.Need-size-or-requires-2
 size-or-requires-2 c κs = search needs
 
--- src/check.rt:90:9
 size-or-requires-3 : tie.Need-size-or-requires-3
 size-or-requires-3 c κs = search needs
 
--- src/check.rt:91:9
 size-or-requires-4 : tie.Need-size-or-requires-4
 size-or-requires-4 c κs = search needs
 
--- src/check.rt:92:9
 size-or-requires-5 : tie.Need-size-or-requires-5
 size-or-requires-5 c κs = search needs
 
--- src/check.rt:93:9
 size-or-requires-6 : tie.Need-size-or-requires-6
 size-or-requires-6 c κs = search needs
 
--- src/check.rt:94:9
 size-or-requires-7 : tie.Need-size-or-requires-7
 size-or-requires-7 c κs = search needs
 
--- src/check.rt:95:13
 texts-size-requires : tie.Need-texts-size-requires
 texts-size-requires c κs = search needs
 
--- src/check.rt:95:5
 size-or-requires-8 : tie.Need-size-or-requires-8
 size-or-requires-8 c κs = search needs
 
--- src/check.rt:71:1
 returns : tie.Need-returns
 unfolding sizesFault
 returns c = cc

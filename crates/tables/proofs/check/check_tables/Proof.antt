@@ -3,41 +3,28 @@ use Rattle.tables.proofs.Faults.{sizes-sound, lent-told, tables-size, t
 use borrow.Author.Needs.{needs}
 use Rattle.tables.proofs.check.check_tables.Statement.{statement}
 use Rattle.tables.proofs.check.check_tables.Tie as tie
-use Rattle.tables.proofs.check.check_tables.Reads as reads
-use Rattle.tables.proofs.check.check_tables.Lts as lts
-use Rattle.tables.proofs.check.check_records.Reads as check-records-reads
-use Rattle.tables.proofs.check.check_sizes.Reads as check-sizes-reads
-use Rattle.tables.proofs.check.whole_size.Reads as whole-size-reads
 
--- src/check.rt:268:9
 whole-size-requires : tie.Need-whole-size-requires
 whole-size-requires c κs = search needs
 
--- src/check.rt:269:9
 whole-size-requires-2 : tie.Need-whole-size-requires-2
 whole-size-requires-2 c κs = search needs
 
--- src/check.rt:271:9
 check-sizes-requires : tie.Need-check-sizes-requires
 check-sizes-requires c κs = search needs
 
--- src/check.rt:283:22
 enum-known-sizes : tie.Need-enum-known-sizes
 enum-known-sizes c = search needs
 
--- src/check.rt:284:25
 enum-told : tie.Need-enum-told
 enum-told c = search needs
 
--- src/check.rt:284:25
 check-records-requires : tie.Need-check-records-requires
 check-records-requires c κs = sizes-sound _ (lent-told _ _ _ _ _ _ _ _ _ (c .before .before .check-sizes .ensures) (c .before .before .before .before .whole-size .ensures) (c .before .before .before .whole-size2 .ensures) (c .enum-told .given .1))
 
--- src/check.rt:255:1
 returns : tie.Need-returns
 returns c = tables-size _ _ _ (lent-told _ _ _ _ _ _ _ _ _ (c .before .before .before .check-sizes .ensures) (c .before .before .before .before .before .whole-size .ensures) (c .before .before .before .before .whole-size2 .ensures) (c .before .sizes .given .1))
 
--- src/check.rt:255:1
 returns-2 : tie.Need-returns-2
 returns-2 c = c .check-records .ensures ∙ tables-records _ (lent-told _ _ _ _ _ _ _ _ _ (c .before .before .before .check-sizes .ensures) (c .before .before .before .before .before .whole-size .ensures) (c .before .before .before .before .whole-size2 .ensures) (c .before .enum-told .given .1))
 

@@ -8,9 +8,6 @@ use Rattle.layout.proofs.Walk.{first-more, first-stop, first-end}
 use Rattle.tables.specs.Check.{recordOk}
 use Rattle.tables.proofs.check.first_bad.Statement.{statement}
 use Rattle.tables.proofs.check.first_bad.Tie as tie
-use Rattle.tables.proofs.check.first_bad.Reads as reads
-use Rattle.tables.proofs.check.first_bad.Lts as lts
-use Rattle.tables.proofs.check.record_ok.Reads as record-ok-reads
 
 abbrev Inv-loop : tie.InvT-loop
 Inv-loop z pool texts nodes notes schemas registry patterns links numbers table n i₀ i = (i ≤ n) × (first (recordOk z (tables pool texts nodes notes schemas registry patterns links numbers) table) i n ≡ first (recordOk z (tables pool texts nodes notes schemas registry patterns links numbers) table) 0 n)
@@ -18,31 +15,24 @@ Inv-loop z pool texts nodes notes schemas registry patterns links numbers table 
 abbrev μ-loop : tie.MeasureT-loop
 μ-loop z pool texts nodes notes schemas registry patterns links numbers table n i₀ i = n - i
 
--- src/check.rt:179:5
 loop-holds : tie.Need-loop-holds Inv-loop μ-loop
 loop-holds c = (search needs, refl)
 
--- src/check.rt:180:12
 record-ok-requires : tie.Need-record-ok-requires Inv-loop μ-loop
 record-ok-requires c κs = search needs
 
--- src/check.rt:194:13
 add-i : tie.Need-add-i Inv-loop μ-loop
 add-i c = search needs
 
--- src/check.rt:179:5
 loop-less : tie.Need-loop-less Inv-loop μ-loop
 loop-less c = search needs
 
--- src/check.rt:179:5
 loop-again : tie.Need-loop-again Inv-loop μ-loop
 loop-again c = (search needs, first-more _ _ _ (c .before .before .before .loop .inv .1) (omega arith) (cc))
 
--- src/check.rt:196:13
 returns : tie.Need-returns Inv-loop μ-loop
 returns c = first-stop _ _ _ (c .before .before .before .loop .inv .1) (omega arith) (cc)
 
--- src/check.rt:162:1
 returns-2 : tie.Need-returns-2 Inv-loop μ-loop
 returns-2 c = first-end _ _ _ (c .before .loop .inv .1) (omega arith) (omega arith)
 

@@ -1,15 +1,11 @@
 use Rattle.tables.specs.Check.{sizeOr}
 use Rattle.tables.proofs.check.size_or.Statement.{statement}
 use Rattle.tables.proofs.check.size_or.Tie as tie
-use Rattle.tables.proofs.check.size_or.Reads as reads
-use Rattle.tables.proofs.check.size_or.Lts as lts
 
--- src/check.rt:48:1
 returns : tie.Need-returns
 unfolding sizeOr
 returns c = cc
 
--- src/check.rt:48:1
 returns-2 : tie.Need-returns-2
 unfolding sizeOr
 returns-2 c = cc

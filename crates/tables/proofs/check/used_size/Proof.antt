@@ -2,15 +2,10 @@ use Rattle.tables.specs.Check.{usedSize}
 use borrow.Author.Needs.{needs}
 use Rattle.tables.proofs.check.used_size.Statement.{statement}
 use Rattle.tables.proofs.check.used_size.Tie as tie
-use Rattle.tables.proofs.check.used_size.Reads as reads
-use Rattle.tables.proofs.check.used_size.Lts as lts
-use Rattle.tables.proofs.lists.both.Reads as both-reads
 
--- src/check.rt:45:5
 both-requires : tie.Need-both-requires
 both-requires c κs = search needs
 
--- src/check.rt:42:1
 returns : tie.Need-returns
 unfolding usedSize
 returns c = cc

@@ -8,9 +8,6 @@ use Rattle.tables.specs.Lists.{keyIsNew, keysDistinct}
 use Rattle.tables.proofs.Below.{distinct-is}
 use Rattle.tables.proofs.lists.keys_distinct.Statement.{statement}
 use Rattle.tables.proofs.lists.keys_distinct.Tie as tie
-use Rattle.tables.proofs.lists.keys_distinct.Reads as reads
-use Rattle.tables.proofs.lists.keys_distinct.Lts as lts
-use Rattle.tables.proofs.lists.key_is_new.Reads as key-is-new-reads
 
 abbrev Inv-loop : tie.InvT-loop
 Inv-loop pool texts links first count j₀ j = (j ≤ count) × (every (keyIsNew pool texts links first) j count ≡ keysDistinct pool texts links first count)
@@ -18,31 +15,24 @@ Inv-loop pool texts links first count j₀ j = (j ≤ count) × (every (keyIsNew
 abbrev μ-loop : tie.MeasureT-loop
 μ-loop pool texts links first count j₀ j = count - j
 
--- src/lists.rt:112:5
 loop-holds : tie.Need-loop-holds Inv-loop μ-loop
 loop-holds c = (search needs, distinct-is _ _ _ _ _)
 
--- src/lists.rt:113:12
 key-is-new-requires : tie.Need-key-is-new-requires Inv-loop μ-loop
 key-is-new-requires c κs = search needs
 
--- src/lists.rt:114:13
 add-j : tie.Need-add-j Inv-loop μ-loop
 add-j c = search needs
 
--- src/lists.rt:112:5
 loop-less : tie.Need-loop-less Inv-loop μ-loop
 loop-less c = search needs
 
--- src/lists.rt:112:5
 loop-again : tie.Need-loop-again Inv-loop μ-loop
 loop-again c = (search needs, every-more _ _ _ (c .before .before .before .loop .inv .1) (omega arith) (cc))
 
--- src/lists.rt:116:13
 returns : tie.Need-returns Inv-loop μ-loop
 returns c = every-stop _ _ _ (c .before .before .before .loop .inv .1) (omega arith) (cc)
 
--- src/lists.rt:108:1
 returns-2 : tie.Need-returns-2 Inv-loop μ-loop
 returns-2 c = every-end _ _ _ (c .before .loop .inv .1) (omega arith) (omega arith)
 

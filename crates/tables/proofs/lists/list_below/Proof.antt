@@ -9,9 +9,6 @@ use Rattle.tables.specs.Lists.{linkBelow, listBelow}
 use Rattle.tables.proofs.Below.{link-below, link-above, list-out, list-in}
 use Rattle.tables.proofs.lists.list_below.Statement.{statement}
 use Rattle.tables.proofs.lists.list_below.Tie as tie
-use Rattle.tables.proofs.lists.list_below.Reads as reads
-use Rattle.tables.proofs.lists.list_below.Lts as lts
-use Rattle.text.proofs.wide.Reads as wide-reads
 
 abbrev Inv-loop : tie.InvT-loop
 Inv-loop links first count limit start end k₀ k = (end ≡ first + count) × (end ≤ length links) × (k ≤ end) × (every (linkBelow links limit) k end ≡ listBelow links first count limit)
@@ -19,55 +16,42 @@ Inv-loop links first count limit start end k₀ k = (end ≡ first + count) × (
 abbrev μ-loop : tie.MeasureT-loop
 μ-loop links first count limit start end k₀ k = end - k
 
--- src/lists.rt:43:9
 returns : tie.Need-returns Inv-loop μ-loop
 returns c = list-out _ _ _ _ (omega arith)
 
--- src/lists.rt:45:8
 sub-if2 : tie.Need-sub-if2 Inv-loop μ-loop
 sub-if2 c = search needs
 
--- src/lists.rt:46:9
 returns-2 : tie.Need-returns-2 Inv-loop μ-loop
 returns-2 c = list-out _ _ _ _ (omega arith)
 
--- src/lists.rt:48:15
 add-end : tie.Need-add-end Inv-loop μ-loop
 add-end c = search needs
 
--- src/lists.rt:50:5
 loop-holds : tie.Need-loop-holds Inv-loop μ-loop
 loop-holds c = (search needs, omega arith, search needs, list-in _ _ _ _ (omega arith))
 
--- src/lists.rt:51:32
 mul-wide : tie.Need-mul-wide Inv-loop μ-loop
 mul-wide c = search needs
 
--- src/lists.rt:51:32
 shared-slice-read-wide : tie.Need-shared-slice-read-wide Inv-loop μ-loop
 shared-slice-read-wide c = search needs
 
--- src/lists.rt:51:21
 wide-requires : tie.Need-wide-requires Inv-loop μ-loop
 wide-requires c κs = search needs
 
--- src/lists.rt:52:13
 returns-3 : tie.Need-returns-3 Inv-loop μ-loop
 returns-3 c = every-stop _ _ _ (c .before .before .before .before .loop .inv .3) (omega arith) (link-above _ _ _ (omega arith))
 
--- src/lists.rt:54:9
 add-k : tie.Need-add-k Inv-loop μ-loop
 add-k c = search needs
 
--- src/lists.rt:50:5
 loop-less : tie.Need-loop-less Inv-loop μ-loop
 loop-less c = search needs
 
--- src/lists.rt:50:5
 loop-again : tie.Need-loop-again Inv-loop μ-loop
 loop-again c = (search needs, search needs, search needs, every-more _ _ _ (c .before .before .before .before .loop .inv .3) (omega arith) (link-below _ _ _ (omega arith)))
 
--- src/lists.rt:38:1
 returns-4 : tie.Need-returns-4 Inv-loop μ-loop
 returns-4 c = every-end _ _ _ (c .before .loop .inv .3) (omega arith) (omega arith)
 

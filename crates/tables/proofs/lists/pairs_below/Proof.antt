@@ -8,9 +8,6 @@ use Rattle.tables.specs.Lists.{pairOk, pairsBelow}
 use Rattle.tables.proofs.Below.{pairs-out, pairs-in}
 use Rattle.tables.proofs.lists.pairs_below.Statement.{statement}
 use Rattle.tables.proofs.lists.pairs_below.Tie as tie
-use Rattle.tables.proofs.lists.pairs_below.Reads as reads
-use Rattle.tables.proofs.lists.pairs_below.Lts as lts
-use Rattle.tables.proofs.lists.pair_ok.Reads as pair-ok-reads
 
 abbrev Inv-loop : tie.InvT-loop
 Inv-loop links first count texts limit k₀ k = (k ≤ count) × (every (pairOk links first texts limit) k count ≡ pairsBelow links first count texts limit)
@@ -18,43 +15,33 @@ Inv-loop links first count texts limit k₀ k = (k ≤ count) × (every (pairOk 
 abbrev μ-loop : tie.MeasureT-loop
 μ-loop links first count texts limit k₀ k = count - k
 
--- src/lists.rt:74:41
 mul-if1 : tie.Need-mul-if1 Inv-loop μ-loop
 mul-if1 c = search needs
 
--- src/lists.rt:74:22
 add-if1 : tie.Need-add-if1 Inv-loop μ-loop
 add-if1 c = search needs
 
--- src/lists.rt:75:9
 returns : tie.Need-returns Inv-loop μ-loop
 returns c = pairs-out _ _ _ _ _ (omega arith)
 
--- src/lists.rt:78:5
 loop-holds : tie.Need-loop-holds Inv-loop μ-loop
 loop-holds c = (search needs, pairs-in _ _ _ _ _ (omega arith))
 
--- src/lists.rt:79:12
 pair-ok-requires : tie.Need-pair-ok-requires Inv-loop μ-loop
 pair-ok-requires c κs = search needs
 
--- src/lists.rt:80:13
 add-k : tie.Need-add-k Inv-loop μ-loop
 add-k c = search needs
 
--- src/lists.rt:78:5
 loop-less : tie.Need-loop-less Inv-loop μ-loop
 loop-less c = search needs
 
--- src/lists.rt:78:5
 loop-again : tie.Need-loop-again Inv-loop μ-loop
 loop-again c = (search needs, every-more _ _ _ (c .before .before .before .loop .inv .1) (omega arith) (cc))
 
--- src/lists.rt:82:13
 returns-2 : tie.Need-returns-2 Inv-loop μ-loop
 returns-2 c = every-stop _ _ _ (c .before .before .before .loop .inv .1) (omega arith) (cc)
 
--- src/lists.rt:71:1
 returns-3 : tie.Need-returns-3 Inv-loop μ-loop
 returns-3 c = every-end _ _ _ (c .before .loop .inv .1) (omega arith) (omega arith)
 

@@ -3,100 +3,73 @@ use Rattle.tables.specs.Records.{nodeRule}
 use borrow.Author.Needs.{needs}
 use Rattle.tables.proofs.records.node_rule.Statement.{statement}
 use Rattle.tables.proofs.records.node_rule.Tie as tie
-use Rattle.tables.proofs.records.node_rule.Reads as reads
-use Rattle.tables.proofs.records.node_rule.Lts as lts
-use Rattle.tables.proofs.records.boolean_node_ok.Reads as boolean-node-ok-reads
-use Rattle.tables.proofs.records.list_node_ok.Reads as list-node-ok-reads
-use Rattle.tables.proofs.records.place_node_ok.Reads as place-node-ok-reads
-use Rattle.tables.proofs.records.plain_node_ok.Reads as plain-node-ok-reads
-use Rattle.tables.proofs.records.real_node_ok.Reads as real-node-ok-reads
 
--- src/records.rt:77:14
 plain-node-ok-requires : tie.Need-plain-node-ok-requires
 plain-node-ok-requires c κs = search needs
 
--- src/records.rt:78:14
 boolean-node-ok-requires : tie.Need-boolean-node-ok-requires
 boolean-node-ok-requires c κs = search needs
 
--- src/records.rt:79:14
 place-node-ok-requires : tie.Need-place-node-ok-requires
 place-node-ok-requires c κs = search needs
 
--- src/records.rt:80:14
 real-node-ok-requires : tie.Need-real-node-ok-requires
 real-node-ok-requires c κs = search needs
 
--- src/records.rt:81:14
 place-node-ok-requires-2 : tie.Need-place-node-ok-requires-2
 place-node-ok-requires-2 c κs = search needs
 
--- src/records.rt:82:14
 list-node-ok-requires : tie.Need-list-node-ok-requires
 list-node-ok-requires c κs = search needs
 
--- src/records.rt:83:40
 mul-list-node-ok : tie.Need-mul-list-node-ok
 mul-list-node-ok c = search needs
 
--- src/records.rt:83:14
 list-node-ok-requires-2 : tie.Need-list-node-ok-requires-2
 list-node-ok-requires-2 c κs = search needs
 
--- src/records.rt:84:14
 plain-node-ok-requires-2 : tie.Need-plain-node-ok-requires-2
 plain-node-ok-requires-2 c κs = search needs
 
--- src/records.rt:85:14
 plain-node-ok-requires-3 : tie.Need-plain-node-ok-requires-3
 plain-node-ok-requires-3 c κs = search needs
 
--- src/records.rt:73:1
 returns : tie.Need-returns
 unfolding nodeRule
 returns c = simp (c .before .match .keys1) cc
 
--- src/records.rt:73:1
 returns-2 : tie.Need-returns-2
 unfolding nodeRule
 returns-2 c = simp (c .before .match .keys2) cc
 
--- src/records.rt:73:1
 returns-3 : tie.Need-returns-3
 unfolding nodeRule
 returns-3 c = simp (c .before .match .keys3) cc
 
--- src/records.rt:73:1
 returns-4 : tie.Need-returns-4
 unfolding nodeRule
 returns-4 c = simp (c .before .match .keys4) cc
 
--- src/records.rt:73:1
 returns-5 : tie.Need-returns-5
 unfolding nodeRule
 returns-5 c = simp (c .before .match .keys5) cc
 
--- src/records.rt:73:1
 returns-6 : tie.Need-returns-6
 unfolding nodeRule
 returns-6 c = simp (c .before .match .keys6) cc
 
--- src/records.rt:73:1
 returns-7 : tie.Need-returns-7
 unfolding nodeRule
 returns-7 c = simp (c .before .match .keys7) cc
 
--- src/records.rt:73:1
 returns-8 : tie.Need-returns-8
 unfolding nodeRule
 returns-8 c = simp (c .before .match .keys8) cc
 
--- src/records.rt:73:1
 returns-9 : tie.Need-returns-9
 unfolding nodeRule
 returns-9 c = simp (c .before .match .keys9) cc
 
--- src/records.rt:73:1
 returns-10 : tie.Need-returns-10
 unfolding nodeRule
 returns-10 c = let r = c .match .rest in simp (ne-eqb _ _ (r .1), ne-eqb _ _ (r .0 .1), ne-eqb _ _ (r .0 .0 .1), ne-eqb _ _ (r .0 .0 .0 .1), ne-eqb _ _ (r .0 .0 .0 .0 .1), ne-eqb _ _ (r .0 .0 .0 .0 .0 .1), ne-eqb _ _ (r .0 .0 .0 .0 .0 .0 .1), ne-eqb _ _ (r .0 .0 .0 .0 .0 .0 .0 .1), ne-eqb _ _ (r .0 .0 .0 .0 .0 .0 .0 .0 .1))

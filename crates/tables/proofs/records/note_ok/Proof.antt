@@ -4,28 +4,19 @@ use Rattle.tables.specs.Records.{noteOk}
 use borrow.Author.Needs.{needs}
 use Rattle.tables.proofs.records.note_ok.Statement.{statement}
 use Rattle.tables.proofs.records.note_ok.Tie as tie
-use Rattle.tables.proofs.records.note_ok.Reads as reads
-use Rattle.tables.proofs.records.note_ok.Lts as lts
-use Rattle.layout.proofs.words.note_case_detection.Reads as note-case-detection-reads
-use Rattle.layout.proofs.words.note_tags.Reads as note-tags-reads
 
--- src/records.rt:107:8
 note-tags-requires : tie.Need-note-tags-requires
 note-tags-requires c κs = search needs
 
--- src/records.rt:108:9
 note-case-detection-requires : tie.Need-note-case-detection-requires
 note-case-detection-requires c κs = search needs
 
--- src/records.rt:110:9
 note-case-detection-requires-2 : tie.Need-note-case-detection-requires-2
 note-case-detection-requires-2 c κs = search needs
 
--- src/records.rt:104:1
 returns : tie.Need-returns
 returns c = cc (untagged _ _ (sym (c .before .before .note-tags .ensures) ∙ c .before .if1 .taken))
 
--- src/records.rt:104:1
 returns-2 : tie.Need-returns-2
 returns-2 c = cc (tagged _ _ (λ e. c .before .if1 .left (c .before .before .note-tags .ensures ∙ e)))
 

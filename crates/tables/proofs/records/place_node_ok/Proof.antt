@@ -2,19 +2,13 @@ use Rattle.tables.specs.Records.{placeNodeOk}
 use borrow.Author.Needs.{needs}
 use Rattle.tables.proofs.records.place_node_ok.Statement.{statement}
 use Rattle.tables.proofs.records.place_node_ok.Tie as tie
-use Rattle.tables.proofs.records.place_node_ok.Reads as reads
-use Rattle.tables.proofs.records.place_node_ok.Lts as lts
-use Rattle.tables.proofs.lists.both.Reads as both-reads
 
--- src/records.rt:55:32
 both-requires : tie.Need-both-requires
 both-requires c κs = search needs
 
--- src/records.rt:55:5
 both-requires-2 : tie.Need-both-requires-2
 both-requires-2 c κs = search needs
 
--- src/records.rt:52:1
 returns : tie.Need-returns
 unfolding placeNodeOk
 returns c = cc

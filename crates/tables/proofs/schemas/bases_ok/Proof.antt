@@ -5,34 +5,22 @@ use Rattle.tables.specs.Schemas.{basesOk}
 use borrow.Author.Needs.{needs}
 use Rattle.tables.proofs.schemas.bases_ok.Statement.{statement}
 use Rattle.tables.proofs.schemas.bases_ok.Tie as tie
-use Rattle.tables.proofs.schemas.bases_ok.Reads as reads
-use Rattle.tables.proofs.schemas.bases_ok.Lts as lts
-use Rattle.tables.proofs.lists.list_below.Reads as list-below-reads
-use Rattle.layout.proofs.schema.bases_count.Reads as bases-count-reads
-use Rattle.layout.proofs.schema.bases_first.Reads as bases-first-reads
-use Rattle.text.proofs.wide.Reads as wide-reads
 
--- src/schemas.rt:118:9
 bases-first-requires : tie.Need-bases-first-requires
 bases-first-requires c κs = search needs
 
--- src/schemas.rt:119:9
 bases-count-requires : tie.Need-bases-count-requires
 bases-count-requires c κs = search needs
 
--- src/schemas.rt:123:34
 wide-requires : tie.Need-wide-requires
 wide-requires c κs = search needs
 
--- src/schemas.rt:123:9
 list-below-requires : tie.Need-list-below-requires
 list-below-requires c κs = search needs
 
--- src/schemas.rt:115:1
 returns : tie.Need-returns
 returns c = cc (bases-absent _ _ (now (c .before .before .before .before .before .args .links)) (sym (c .before .before .bases-first .ensures) ∙ c .if1 .taken))
 
--- src/schemas.rt:115:1
 returns-2 : tie.Need-returns-2
 returns-2 c = cc (bases-listed _ _ (now (c .before .before .before .before .before .before .before .args .links)) (λ e. c .before .before .if1 .left (c .before .before .before .before .bases-first .ensures ∙ e)))
 

@@ -3,126 +3,91 @@ use Rattle.tables.specs.Schemas.{schemaRule}
 use borrow.Author.Needs.{needs}
 use Rattle.tables.proofs.schemas.schema_rule.Statement.{statement}
 use Rattle.tables.proofs.schemas.schema_rule.Tie as tie
-use Rattle.tables.proofs.schemas.schema_rule.Reads as reads
-use Rattle.tables.proofs.schemas.schema_rule.Lts as lts
-use Rattle.tables.proofs.schemas.array_ok.Reads as array-ok-reads
-use Rattle.tables.proofs.schemas.list_ok.Reads as list-ok-reads
-use Rattle.tables.proofs.schemas.number_ok.Reads as number-ok-reads
-use Rattle.tables.proofs.schemas.object_ok.Reads as object-ok-reads
-use Rattle.tables.proofs.schemas.ref_ok.Reads as ref-ok-reads
-use Rattle.tables.proofs.schemas.string_ok.Reads as string-ok-reads
-use Rattle.tables.proofs.schemas.true_ok.Reads as true-ok-reads
-use Rattle.tables.proofs.schemas.unused_from.Reads as unused-from-reads
 
--- src/schemas.rt:198:14
 true-ok-requires : tie.Need-true-ok-requires
 true-ok-requires c κs = search needs
 
--- src/schemas.rt:199:14
 unused-from-requires : tie.Need-unused-from-requires
 unused-from-requires c κs = search needs
 
--- src/schemas.rt:200:14
 number-ok-requires : tie.Need-number-ok-requires
 number-ok-requires c κs = search needs
 
--- src/schemas.rt:201:14
 string-ok-requires : tie.Need-string-ok-requires
 string-ok-requires c κs = search needs
 
--- src/schemas.rt:202:14
 unused-from-requires-2 : tie.Need-unused-from-requires-2
 unused-from-requires-2 c κs = search needs
 
--- src/schemas.rt:203:14
 list-ok-requires : tie.Need-list-ok-requires
 list-ok-requires c κs = search needs
 
--- src/schemas.rt:204:14
 unused-from-requires-3 : tie.Need-unused-from-requires-3
 unused-from-requires-3 c κs = search needs
 
--- src/schemas.rt:205:14
 list-ok-requires-2 : tie.Need-list-ok-requires-2
 list-ok-requires-2 c κs = search needs
 
--- src/schemas.rt:206:14
 list-ok-requires-3 : tie.Need-list-ok-requires-3
 list-ok-requires-3 c κs = search needs
 
--- src/schemas.rt:207:14
 array-ok-requires : tie.Need-array-ok-requires
 array-ok-requires c κs = search needs
 
--- src/schemas.rt:208:15
 object-ok-requires : tie.Need-object-ok-requires
 object-ok-requires c κs = search needs
 
--- src/schemas.rt:209:15
 ref-ok-requires : tie.Need-ref-ok-requires
 ref-ok-requires c κs = search needs
 
--- src/schemas.rt:186:1
 returns : tie.Need-returns
 unfolding schemaRule
 returns c = simp (c .before .match .keys1) cc
 
--- src/schemas.rt:186:1
 returns-2 : tie.Need-returns-2
 unfolding schemaRule
 returns-2 c = simp (c .before .match .keys2) cc
 
--- src/schemas.rt:186:1
 returns-3 : tie.Need-returns-3
 unfolding schemaRule
 returns-3 c = simp (c .before .match .keys3) cc
 
--- src/schemas.rt:186:1
 returns-4 : tie.Need-returns-4
 unfolding schemaRule
 returns-4 c = simp (c .before .match .keys4) cc
 
--- src/schemas.rt:186:1
 returns-5 : tie.Need-returns-5
 unfolding schemaRule
 returns-5 c = simp (c .before .match .keys5) cc
 
--- src/schemas.rt:186:1
 returns-6 : tie.Need-returns-6
 unfolding schemaRule
 returns-6 c = simp (c .before .match .keys6) cc
 
--- src/schemas.rt:186:1
 returns-7 : tie.Need-returns-7
 unfolding schemaRule
 returns-7 c = simp (c .before .match .keys7) cc
 
--- src/schemas.rt:186:1
 returns-8 : tie.Need-returns-8
 unfolding schemaRule
 returns-8 c = simp (c .before .match .keys8) cc
 
--- src/schemas.rt:186:1
 returns-9 : tie.Need-returns-9
 unfolding schemaRule
 returns-9 c = simp (c .before .match .keys9) cc
 
--- src/schemas.rt:186:1
 returns-10 : tie.Need-returns-10
 unfolding schemaRule
 returns-10 c = simp (c .before .match .keys10) cc
 
--- src/schemas.rt:186:1
 returns-11 : tie.Need-returns-11
 unfolding schemaRule
 returns-11 c = simp (c .before .match .keys11) cc
 
--- src/schemas.rt:186:1
 returns-12 : tie.Need-returns-12
 unfolding schemaRule
 returns-12 c = simp (c .before .match .keys12) cc
 
--- src/schemas.rt:186:1
 returns-13 : tie.Need-returns-13
 unfolding schemaRule
 returns-13 c = let r = c .match .rest in simp (ne-eqb _ _ (r .1), ne-eqb _ _ (r .0 .1), ne-eqb _ _ (r .0 .0 .1), ne-eqb _ _ (r .0 .0 .0 .1), ne-eqb _ _ (r .0 .0 .0 .0 .1), ne-eqb _ _ (r .0 .0 .0 .0 .0 .1), ne-eqb _ _ (r .0 .0 .0 .0 .0 .0 .1), ne-eqb _ _ (r .0 .0 .0 .0 .0 .0 .0 .1), ne-eqb _ _ (r .0 .0 .0 .0 .0 .0 .0 .0 .1), ne-eqb _ _ (r .0 .0 .0 .0 .0 .0 .0 .0 .0 .1), ne-eqb _ _ (r .0 .0 .0 .0 .0 .0 .0 .0 .0 .0 .1), ne-eqb _ _ (r .0 .0 .0 .0 .0 .0 .0 .0 .0 .0 .0 .1))

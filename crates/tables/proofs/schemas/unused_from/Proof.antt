@@ -10,9 +10,6 @@ use Rattle.tables.proofs.Walked.{every-none}
 use Rattle.tables.proofs.Rules.{unused-yes, unused-no, unused-is}
 use Rattle.tables.proofs.schemas.unused_from.Statement.{statement}
 use Rattle.tables.proofs.schemas.unused_from.Tie as tie
-use Rattle.tables.proofs.schemas.unused_from.Reads as reads
-use Rattle.tables.proofs.schemas.unused_from.Lts as lts
-use Rattle.layout.proofs.schema.schema_word.Reads as schema-word-reads
 
 abbrev Inv-loop : tie.InvT-loop
 Inv-loop schemas s k i₀ i = (i < 4294967296) × (every (unusedAt schemas s) i schemaWords ≡ unusedFrom schemas s k)
@@ -20,34 +17,27 @@ Inv-loop schemas s k i₀ i = (i < 4294967296) × (every (unusedAt schemas s) i 
 abbrev μ-loop : tie.MeasureT-loop
 μ-loop schemas s k i₀ i = schemaWords - i
 
--- src/schemas.rt:31:5
 loop-holds : tie.Need-loop-holds Inv-loop μ-loop
 loop-holds c = (search needs, unused-is _ _ _)
 
 cast-loop : tie.Need-cast-loop Inv-loop μ-loop
 cast-loop c = search needs
 
--- src/schemas.rt:32:12
 schema-word-requires : tie.Need-schema-word-requires Inv-loop μ-loop
 schema-word-requires c κs = search needs
 
--- src/schemas.rt:33:13
 returns : tie.Need-returns Inv-loop μ-loop
 returns c = every-stop _ _ _ (c .before .before .before .loop .inv .1) (omega arith) (unused-no _ _ _ (λ e. c .if1 .taken (c .before .schema-word .ensures ∙ e)))
 
--- src/schemas.rt:35:9
 add-i : tie.Need-add-i Inv-loop μ-loop
 add-i c = search needs
 
--- src/schemas.rt:31:5
 loop-less : tie.Need-loop-less Inv-loop μ-loop
 loop-less c = search needs
 
--- src/schemas.rt:31:5
 loop-again : tie.Need-loop-again Inv-loop μ-loop
 loop-again c = (omega arith, every-more _ _ _ (c .before .before .before .loop .inv .1) (omega arith) (unused-yes _ _ _ (sym (c .before .schema-word .ensures) ∙ c .if1 .left)))
 
--- src/schemas.rt:27:1
 returns-2 : tie.Need-returns-2 Inv-loop μ-loop
 returns-2 c = sym (every-none _ _ _ (omega arith)) ∙ c .before .loop .inv .1
 

@@ -1,0 +1,51 @@
+// The C boundary: thin functions over the public calls. include/quarto_yaml.h is its other side.
+mod flat;
+mod span;
+
+ghost use mathlib.Core.Path.{_≡_};
+ghost use Rattle.layout.specs.Layout.{tables};
+ghost use Rattle.navigate.specs.Navigate.{navigateOf};
+ghost use Rattle.checker.specs.Flat.{flatOf};
+ghost use Rattle.checker.specs.Span.{spanOf};
+use flat::Flat;
+use span::Span;
+
+#[no_mangle]
+pub extern "C" fn qy_navigate(
+    pool: &[u8],
+    texts: &[u32],
+    nodes: &[u32],
+    notes: &[u32],
+    schemas: &[u32],
+    registry: &[u32],
+    patterns: &[u32],
+    links: &[u32],
+    numbers: &[u64],
+    node: u32,
+    path: &[u32],
+    key_wanted: bool,
+) -> Flat
+    ensures { λ r. ⌜ r ≡ flatOf (navigateOf (tables (now (pool .entry)) (now (texts .entry)) (now (nodes .entry)) (now (notes .entry)) (now (schemas .entry)) (now (registry .entry)) (now (patterns .entry)) (now (links .entry)) (now (numbers .entry))) node (now (path .entry)) «key_wanted») ⌝ }
+{
+    flat::flatten(navigate::navigate(
+        pool,
+        texts,
+        nodes,
+        notes,
+        schemas,
+        registry,
+        patterns,
+        links,
+        numbers,
+        node,
+        path,
+        key_wanted,
+    ))
+}
+
+#[no_mangle]
+pub extern "C" fn qy_text(pool: &[u8], texts: &[u32], n: u32) -> Span
+    ensures { λ r. ⌜ r ≡ spanOf (now (pool .entry)) (now (texts .entry)) n ⌝ }
+{
+    span::text_span(pool, texts, n)
+}

@@ -1,0 +1,3 @@
+pub mod Answering
+pub mod Steps
+pub mod Walking
