@@ -57,6 +57,11 @@ extern "C" {
 #define QY_MOST_LINKS 16384
 #define QY_MOST_NUMBERS 4096
 
+/* Words per step of a path; the least words of a buffer for an instance path and for a schema path. */
+#define QY_STEP_WORDS 2
+#define QY_INSTANCE_PATH_WORDS 128
+#define QY_SCHEMA_PATH_WORDS 64
+
 /* Tables by number, as qy_answer.table has them. */
 enum {
     QY_TABLE_TEXTS = 1,
@@ -190,7 +195,8 @@ typedef struct {
  *
  * QY_OK with the node in `record`; QY_NOT_FOUND; QY_OUT_OF_RANGE for `node`;
  * QY_BAD_TABLE for the tables, and for the path with table QY_TABLE_PATH: record
- * is the first bad step, QY_NONE where the path has an odd count of words. */
+ * is the first bad step, QY_NONE where the path has an odd count of words or
+ * 4294967295 steps or more. */
 qy_answer qy_navigate(const uint8_t *pool, size_t pool_bytes,
                       const uint32_t *texts, size_t text_words,
                       const uint32_t *nodes, size_t node_words,

@@ -8,7 +8,7 @@ use native.Mathlib.Omega.{arith}
 use lib.ListN.{length}
 use Rattle.text.specs.Choice.{true-or-false, pick-yes, pick-no}
 use Rattle.text.specs.Text.{textStart, textLength, textFits, partOf, textOf}
-use Rattle.text.proofs.Texts.{fits-true, part-none, text-part, text-out}
+use Rattle.text.proofs.Texts.{fits-within, part-none, text-part, text-out}
 use Rattle.checker.specs.declared.span.Span.{Span}
 use Rattle.checker.specs.Span.{spanAt, spanOf}
 
@@ -37,9 +37,9 @@ module _ (pool texts : List ℕ) (n : ℕ) where
 
   -- and lies within it
   pub span-within : spanOf pool texts n .start + spanOf pool texts n .size ≤ length pool
-  unfolding end-of textFits
+  unfolding end-of
   span-within =
       ⊎-elim
-      (λ t. omega (arith, ap end-of (span-in t), fits-true (length pool) (textStart texts n) (textLength texts n) t))
+      (λ t. omega (arith, ap end-of (span-in t), fits-within pool texts n t))
       (λ t. omega (arith, ap end-of (span-out t)))
       (true-or-false (textFits pool texts n))

@@ -1,3 +1,4 @@
 pub mod Answers
 pub mod Details
 pub mod Paths
+pub mod Numbers

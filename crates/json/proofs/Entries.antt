@@ -3,18 +3,18 @@ use mathlib.Core.Path.{_≡_, refl, sym, ap, _∙_}
 use mathlib.Core.Bool.{Bool, true, false, not}
 use mathlib.Core.List.{List}
 use mathlib.Core.Option.{Option, none, some}
-use Prim.Native.Nat.{ℕ, zero, suc, _+_, _-_, _≤_, _<_}
+use Prim.Native.Nat.{ℕ, zero, suc, _+_, _-_, _≤_}
 use native.Mathlib.Omega.{arith}
 use lib.Dec.{eqb}
 use borrow.Author.Tests.{eq-eqb, ne-eqb}
-use Rattle.text.specs.Choice.{both, pick, clash}
+use Rattle.text.specs.Choice.{both, pick}
 use Rattle.text.specs.Text.{sameBytes, sameText, textOf}
 use Rattle.layout.specs.Layout.{nodeKind, nodeA, nodeB}
 use Rattle.lookup.specs.declared.Found.{Found}
 use Rattle.lookup.specs.declared.Found.the-variants.{At, Nothing}
 use Rattle.lookup.specs.Find.{lastBelow}
 use Rattle.lookup.specs.Lookup.{keyIs, entryKey, entryValue, entryHasKey, lastEntry}
-use Rattle.json.specs.Json.{Json, Fields, noFields, field, orElse, isSome, fieldOf, hasField}
+use Rattle.json.specs.Json.{Json, Fields, field, orElse, isSome, fieldOf, hasField}
 use Rattle.json.specs.Value.{keyed, fieldsFrom}
 use Rattle.json.specs.Walk.{isAt, isFound, isLastOf}
 

@@ -1,5 +1,5 @@
 -- Equality of values is reflexive where every real is finite, and symmetric; in source mode it is transitive. Assumes nothing.
-use mathlib.Core.Path.{_≡_, refl, sym, ap, _∙_}
+use mathlib.Core.Path.{_≡_, refl, sym, _∙_}
 use mathlib.Core.Bool.{Bool, true, false}
 use mathlib.Core.List.{List}
 use mathlib.Core.Option.{Option, none, some}
@@ -11,7 +11,7 @@ use Rattle.text.specs.Text.{sameBytes}
 use Rattle.text.proofs.Bytes.{same-refl, same-sym, same-trans}
 use Rattle.number.specs.declared.equal.Equality.{Equality}
 use Rattle.number.specs.declared.equal.Number.{Number}
-use Rattle.number.specs.Equal.{equalNumbersOf, finiteNumber, ofSource}
+use Rattle.number.specs.Equal.{equalNumbersOf, ofSource}
 use Rattle.number.proofs.Equalities as numbers
 use Rattle.json.specs.Json.{Json, null, boolean, number, string, array, object, Items, noItems, item, Fields, noFields, field, orElse, fieldOf, keysWithin, onNull, onBoolean, onNumber, onString, onArray, onObject, onNoItems, onItem, onSome, isNone, equalJson, equalItems, equalFields, agree, Sane, SaneItems, SaneFields}
 use Rattle.json.proofs.Maps.{equal-objects-agree, agree-equal-objects}

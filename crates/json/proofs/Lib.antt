@@ -5,3 +5,4 @@ pub mod Entries
 pub mod Walk
 pub mod Steps
 pub mod Nodes
+pub mod Values

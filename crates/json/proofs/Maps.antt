@@ -1,14 +1,15 @@
 -- An object as a finite map: its fields by key, and objects are equal where the maps agree at every key. Assumes nothing.
-use mathlib.Core.Path.{_≡_, refl, sym, ap, _∙_}
+use mathlib.Core.Path.{_≡_, refl, sym, _∙_}
 use mathlib.Core.Bool.{Bool, true, false}
 use mathlib.Core.List.{List}
 use mathlib.Core.Option.{Option, none, some, Option·none-ne-some, Option·some-injective}
+use mathlib.Core.Logic.{_↔_}
 use Prim.Native.Nat.{ℕ}
-use Rattle.text.specs.Choice.{both, either, pick, clash, both-holds, both-left, both-right}
+use Rattle.text.specs.Choice.{either, pick, clash, both-holds, both-left, both-right}
 use Rattle.text.specs.Text.{sameBytes}
 use Rattle.text.proofs.Bytes.{same-sound, same-refl}
 use Rattle.number.specs.declared.equal.Equality.{Equality}
-use Rattle.json.specs.Json.{Json, null, boolean, number, string, array, object, Items, Fields, noFields, field, orElse, fieldOf, isSome, hasField, keysWithin, onSome, isNone, equalJson, equalFields, agree}
+use Rattle.json.specs.Json.{Json, object, Fields, noFields, field, orElse, fieldOf, isSome, hasField, keysWithin, onSome, isNone, equalJson, equalFields, agree}
 
 -- ---- a map by key
 module _ (key k : List ℕ) (v : Json) (fs : Fields) where
@@ -135,3 +136,7 @@ module _ (way : Equality) where
             has-cases key xs (λ o b. agree way o (fieldOf key ys) ≡ true → b ≡ true)
             (λ x e g. refl)
             (λ e g. let r = has-value key ys t in clash refl (sym (rw (r .1) at g)))
+
+    -- objects are equal exactly where the two maps agree at every key
+    pub equal-objects : (equalJson way (object xs) (object ys) ≡ true) ↔ ((key : List ℕ) → agree way (fieldOf key xs) (fieldOf key ys) ≡ true)
+    equal-objects = (equal-objects-agree, agree-equal-objects)

@@ -1,16 +1,16 @@
 -- What callers cite of the values of nodes: equality of nodes is an equivalence in source mode, and a value does not depend on the depth. Assumes nothing.
-use mathlib.Core.Path.{_≡_, refl, sym, ap, ap₂, _∙_}
-use mathlib.Core.Bool.{Bool, true, false}
+use mathlib.Core.Path.{_≡_, refl, ap, ap₂}
+use mathlib.Core.Bool.{Bool, true}
 use mathlib.Core.List.{List}
 use Prim.Native.Nat.{ℕ, zero, suc, _+_, _≤_, _<_}
 use native.Mathlib.Omega.{arith}
 use Rattle.number.specs.Equal.{ofSource}
 use Rattle.number.specs.declared.equal.Equality.{Equality}
-use Rattle.number.specs.declared.equal.Equality.the-variants.{Enum, Unique, Standard}
-use Rattle.layout.specs.Layout.{nodeKind, nodeA, nodeB, nodeCount}
+use Rattle.number.specs.declared.equal.Equality.the-variants.{Enum, Unique}
+use Rattle.layout.specs.Layout.{nodeKind, nodeB, nodeCount}
 use Rattle.lookup.specs.Lookup.{entryKey, entryValue, itemNode}
-use Rattle.json.specs.Json.{Json, array, object, Items, item, Fields, Sane}
-use Rattle.json.specs.Value.{shapeOf, itemsFrom, keyed, fieldsFrom, jsonOf, valueAt, valueOf, equalNodesOf}
+use Rattle.json.specs.Json.{Json, array, object, item}
+use Rattle.json.specs.Value.{itemsFrom, keyed, fieldsFrom, jsonOf, valueAt, valueOf, equalNodesOf}
 use Rattle.json.proofs.Equalities.{equal-refl, equal-sym, equal-trans}
 use Rattle.json.proofs.Shapes.{shape-cases}
 use Rattle.json.proofs.Walk.{sane-value}

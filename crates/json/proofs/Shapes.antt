@@ -1,17 +1,16 @@
 -- A node's shape by its kind, and values that are neither array nor object. Assumes nothing.
-use mathlib.Core.Path.{_≡_, refl, sym, ap, _∙_}
+use mathlib.Core.Path.{_≡_, refl, sym, _∙_}
 use mathlib.Core.Bool.{Bool, true, false}
 use mathlib.Core.List.{List, [], _∷_}
 use Prim.Native.Nat.{ℕ}
-use native.Mathlib.Omega.{arith}
 use lib.Dec.{eqb}
 use lib.ListN.{getD}
-use borrow.Author.Tests.{eqb-true, eqb-false, eq-eqb, ne-eqb}
+use borrow.Author.Tests.{eqb-true}
 use types.Run.{OneOf, miss}
 use denote.Enum.Declared.{tagOf}
-use Rattle.text.specs.Choice.{pick, pick-all, clash}
+use Rattle.text.specs.Choice.{pick, pick-all}
 use Rattle.text.specs.Text.{textOf, sameBytes}
-use Rattle.number.specs.Equal.{equalNumbersOf, finiteNumber}
+use Rattle.number.specs.Equal.{equalNumbersOf}
 use Rattle.number.specs.Pattern.{finiteOf}
 use Rattle.number.specs.declared.equal.Equality.{Equality}
 use Rattle.number.specs.declared.equal.Number.{Number}

@@ -2,10 +2,10 @@
 use mathlib.Core.Path.{_≡_, refl, sym, ap, _∙_}
 use mathlib.Core.Bool.{Bool, true, false, not}
 use mathlib.Core.List.{List}
-use Prim.Native.Nat.{ℕ, _<_, _≤_}
+use Prim.Native.Nat.{ℕ}
 use lib.Dec.{eqb}
 use borrow.Author.Tests.{eq-eqb, ne-eqb}
-use Rattle.text.specs.Choice.{both, pick, both-fails-left, both-fails-right}
+use Rattle.text.specs.Choice.{both-fails-left, both-fails-right}
 use Rattle.layout.specs.Layout.{nodeKind, nodeA, nodeB}
 use Rattle.layout.specs.Walk.{every}
 use Rattle.lookup.specs.declared.Found.{Found}

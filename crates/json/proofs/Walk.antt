@@ -2,14 +2,13 @@
 use mathlib.Core.Path.{_≡_, refl, sym, ap, ap₂, _∙_}
 use mathlib.Core.Bool.{Bool, true, false, not}
 use mathlib.Core.List.{List}
-use mathlib.Core.Option.{Option, none, some}
 use mathlib.Core.Logic.{⊎-elim}
-use Prim.Native.Nat.{ℕ, zero, suc, _+_, _-_, _≤_, _<_}
+use Prim.Native.Nat.{ℕ, zero, suc, _+_, _-_}
 use native.Mathlib.Numerals.{add-one}
 use native.Mathlib.Omega.{arith}
 use lib.Dec.{eqb}
-use borrow.Author.Tests.{eqb-true, eqb-false, eq-eqb, ne-eqb}
-use Rattle.text.specs.Choice.{both, either, pick, clash, true-or-false, both-fails-right, both-holds}
+use borrow.Author.Tests.{eqb-true, eqb-false}
+use Rattle.text.specs.Choice.{both, either, pick, true-or-false, both-fails-right, both-holds}
 use Rattle.text.specs.Text.{textOf, sameText}
 use Rattle.text.proofs.Bytes.{same-refl}
 use Rattle.number.specs.Equal.{finiteNumber}
@@ -17,15 +16,14 @@ use Rattle.number.specs.declared.equal.Equality.{Equality}
 use Rattle.layout.specs.Layout.{nodeKind, nodeA, nodeB, nodeCount}
 use Rattle.layout.specs.Walk.{every}
 use Rattle.layout.proofs.Walk.{every-more, every-stop, every-end}
-use Rattle.lookup.specs.declared.Found.{Found}
-use Rattle.lookup.specs.declared.Found.the-variants.{At, Nothing}
+use Rattle.lookup.specs.declared.Found.the-variants.{At}
 use Rattle.lookup.specs.Find.{foundAt}
 use Rattle.lookup.specs.Lookup.{keyIs, entryHasKey, entryKey, entryValue, itemNode, lastEntry}
 use Rattle.json.specs.declared.shape.Shape.{Shape}
 use Rattle.json.specs.declared.shape.Shape.the-variants.{Null, Boolean, Numeric, Text, Array, Object}
-use Rattle.json.specs.Json.{Json, array, object, Items, noItems, item, Fields, noFields, field, fieldOf, hasField, keysWithin, onSome, onArray, onObject, equalJson, equalItems, equalFields, Sane, SaneItems, SaneFields}
+use Rattle.json.specs.Json.{Json, Fields, field, fieldOf, hasField, keysWithin, onSome, onArray, onObject, equalJson, equalItems, equalFields, Sane, SaneItems, SaneFields}
 use Rattle.json.specs.Value.{shapeOf, itemsFrom, keyed, fieldsFrom, jsonOf, valueAt, valueOf, equalNodesOf}
-use Rattle.json.specs.Walk.{leafOf, equalLeafOf, isFound, isLastOf, keyValueOf, keyInOf, keysInOf, counterpartOf, onFound, equalAt, equalItemOf, equalArraysOf, equalEntryOf, equalObjectsOf}
+use Rattle.json.specs.Walk.{leafOf, equalLeafOf, isLastOf, keyValueOf, keyInOf, keysInOf, counterpartOf, onFound, equalAt, equalItemOf, equalArraysOf, equalEntryOf, equalObjectsOf}
 use Rattle.json.proofs.Equalities.{equal-refl}
 use Rattle.json.proofs.Shapes.{shape-cases, shape-array, shape-object, no-array, no-object, leaf-equal}
 use Rattle.json.proofs.Entries.{field-of-last, has-last, is-last-field}

@@ -12,14 +12,17 @@ use Rattle.tables.specs.declared.check.Fault.{Fault}
 use Rattle.tables.specs.declared.check.Fault.the-variants.{Sound, Bad}
 
 -- two words a step: its tag, and a text or an index
+abbrev pub stepWords : ℕ
+stepWords = 2
+
 abbrev pub pathTag : List ℕ → ℕ → ℕ
-pathTag path i = getD path (i * 2) 0
+pathTag path i = getD path (i * stepWords) 0
 
 abbrev pub pathWord : List ℕ → ℕ → ℕ
-pathWord path i = getD path (i * 2 + 1) 0
+pathWord path i = getD path (i * stepWords + 1) 0
 
 unfoldable pub stepCount : List ℕ → ℕ
-stepCount path = length path / 2
+stepCount path = length path / stepWords
 
 -- the steps of a path
 unfoldable pub stepsOf : List ℕ → List Step
@@ -27,7 +30,7 @@ stepsOf path = readPath path (stepCount path)
 
 -- not ragged, and few enough that a step's number is a word
 unfoldable pub pathSize : List ℕ → Bool
-pathSize path = both (eqb (length path % 2) 0) (ltb (stepCount path) NONE)
+pathSize path = both (eqb (length path % stepWords) 0) (ltb (stepCount path) NONE)
 
 -- a good step: 0 with one of the texts, of which there are count, or 1 with an index
 unfoldable pub wordsOk : ℕ → ℕ → ℕ → Bool

@@ -7,7 +7,8 @@ use tables::check::Fault;
 // The path counts as a table of its own.
 const PATH_TABLE: u32 = 9;
 
-const STEP_WORDS: usize = 2;
+// Words per step: its tag, and a text or an index.
+pub const STEP_WORDS: usize = 2;
 
 // As many steps have no number that fits a word.
 const TOO_MANY_STEPS: usize = 4294967295;

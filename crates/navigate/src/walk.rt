@@ -101,8 +101,8 @@ pub fn follow(
             nodes,
             links,
             at,
-            path[i * 2],
-            path[i * 2 + 1],
+            path[i * path::STEP_WORDS],
+            path[i * path::STEP_WORDS + 1],
             key,
         );
         let Found::At(next) = found else {

@@ -14,8 +14,8 @@ use Rattle.layout.specs.Layout.{Tables, tables, NONE, nodeWords, noteWords, sch
 use Rattle.layout.specs.Walk.{first}
 use Rattle.tables.specs.declared.check.Fault.{Fault}
 use Rattle.tables.specs.declared.check.Fault.the-variants.{Sound, Bad}
-use Rattle.tables.specs.declared.records.Counts.{Counts}
-use Rattle.tables.specs.Records.{countsOf}
+use Rattle.rules.specs.declared.records.Counts.{Counts}
+use Rattle.rules.specs.Records.{countsOf}
 use Rattle.tables.specs.Check.{wholeSize, sizeOr, textsSize, sizesFault, recordCount, recordOk, firstBad, recordsFrom, recordsFault, orElse, lentFault, tablesFault}
 use Rattle.tables.specs.Facts.{Sized}
 

@@ -1,5 +1,2 @@
-pub mod Walked
-pub mod Below
-pub mod Rules
 pub mod Faults
 pub mod Facts

@@ -9,11 +9,11 @@ use Rattle.text.specs.Choice.{both, pick}
 use Rattle.text.specs.Text.{textWords, textCount}
 use Rattle.tables.specs.declared.check.Fault.{Fault}
 use Rattle.tables.specs.declared.check.Fault.the-variants.{Sound, Bad}
-use Rattle.tables.specs.declared.records.Counts.{Counts}
+use Rattle.rules.specs.declared.records.Counts.{Counts}
 use Rattle.layout.specs.Layout.{Tables, NONE, nodeWords, noteWords, schemaWords, registryWords, patternWords, mostBytes, mostTexts, mostNodes, mostNotes, mostSchemas, mostEntries, mostPatterns, mostLinks, mostNumbers, nodeCount, noteCount, schemaCount, entryCount, patternCount}
 use Rattle.layout.specs.Walk.{first}
-use Rattle.tables.specs.Records.{countsOf, textOk, nodeOk, noteOk, entryOk, patternOk}
-use Rattle.tables.specs.Schemas.{schemaOk}
+use Rattle.rules.specs.Records.{countsOf, textOk, nodeOk, noteOk, entryOk, patternOk}
+use Rattle.rules.specs.Schemas.{schemaOk}
 
 -- neither ragged nor too long
 unfoldable pub wholeSize : ℕ → ℕ → ℕ → Bool

@@ -5,8 +5,8 @@ use mathlib.Core.Bool.{true}
 use lib.ListN.{length}
 use Rattle.text.specs.Text.{textCount}
 use Rattle.layout.specs.Layout.{Tables, mostBytes, mostTexts, mostNodes, mostNotes, mostSchemas, mostEntries, mostPatterns, mostLinks, mostNumbers, nodeCount, noteCount, schemaCount, entryCount, patternCount}
-use Rattle.tables.specs.Records.{countsOf, textOk, nodeOk, noteOk, entryOk, patternOk}
-use Rattle.tables.specs.Schemas.{schemaOk}
+use Rattle.rules.specs.Records.{countsOf, textOk, nodeOk, noteOk, entryOk, patternOk}
+use Rattle.rules.specs.Schemas.{schemaOk}
 
 -- no table is longer than its limit
 pub record Sized (T : Tables) : Type 0 where

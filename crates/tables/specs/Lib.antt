@@ -1,5 +1,2 @@
-pub mod Lists
-pub mod Records
-pub mod Schemas
 pub mod Check
 pub mod Facts

@@ -4,7 +4,7 @@ ghost use Prim.Native.Nat.{_<_, _≤_};
 ghost use lib.ListN.{length};
 ghost use Rattle.layout.specs.Layout.{tables};
 ghost use Rattle.layout.specs.Walk.{first};
-ghost use Rattle.tables.specs.Records.{countsIn, countsOf};
+ghost use Rattle.rules.specs.Records.{countsIn, countsOf};
 ghost use Rattle.tables.specs.Check.{
   wholeSize,
   usedSize,
@@ -17,12 +17,12 @@ ghost use Rattle.tables.specs.Check.{
   tablesFault,
 };
 ghost use Rattle.tables.specs.Facts.{Sized};
-use crate::lists::both;
-use crate::records;
-use crate::records::Counts;
-use crate::schemas;
 use layout::words;
 use layout::words::NONE;
+use rules::lists::both;
+use rules::records;
+use rules::records::Counts;
+use rules::schemas;
 
 // What the check finds: nothing, or a table and its first bad record, NONE for a size.
 pub enum Fault {

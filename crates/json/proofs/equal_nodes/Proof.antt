@@ -6,25 +6,17 @@ use Rattle.json.proofs.Walk as walk
 use borrow.Author.Needs.{needs}
 use Rattle.json.proofs.equal_nodes.Statement.{statement}
 use Rattle.json.proofs.equal_nodes.Tie as tie
-use Rattle.json.proofs.equal_nodes.Reads as reads
-use Rattle.json.proofs.equal_nodes.Lts as lts
-use Rattle.json.proofs.equal_at.Reads as equal-at-reads
-use Rattle.layout.proofs.words.node_count.Reads as node-count-reads
 
--- src/lib.rt:127:17
 node-count-requires : tie.Need-node-count-requires
 node-count-requires c κs = search needs
 
--- src/lib.rt:127:17
 add-depth : tie.Need-add-depth
 unfolding nodeCount
 add-depth c = omega (arith, c .node-count .ensures)
 
--- src/lib.rt:128:5
 equal-at-requires : tie.Need-equal-at-requires
 equal-at-requires c κs = search needs
 
--- src/lib.rt:115:1
 returns : tie.Need-returns
 returns c = c .equal-at .ensures ∙ walk.at-top _ _ _ _ _ _ _ _ _ (ap (λ (n : ℕ). n + 1) (c .before .node-count .ensures))
 

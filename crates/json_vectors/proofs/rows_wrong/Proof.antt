@@ -1,12 +1,10 @@
+-- `json_vectors::rows_wrong`: at most three wrong for each row passed. Assumes nothing.
 use Prim.Native.Nat.{_≤_, _*_, _-_, _/_}
 use native.Mathlib.Omega.{arith}
 use lib.ListN.{length}
 use borrow.Author.Needs.{needs}
 use Rattle.json_vectors.proofs.rows_wrong.Statement.{statement}
 use Rattle.json_vectors.proofs.rows_wrong.Tie as tie
-use Rattle.json_vectors.proofs.rows_wrong.Reads as reads
-use Rattle.json_vectors.proofs.rows_wrong.Lts as lts
-use Rattle.json_vectors.proofs.row_wrong.Reads as row-wrong-reads
 
 abbrev Inv-loop : tie.InvT-loop
 Inv-loop rows sum₀ i₀ sum i = (i ≤ length rows / 3) × (sum ≤ 3 * i)
@@ -14,31 +12,24 @@ Inv-loop rows sum₀ i₀ sum i = (i ≤ length rows / 3) × (sum ≤ 3 * i)
 abbrev μ-loop : tie.MeasureT-loop
 μ-loop rows sum₀ i₀ sum i = length rows / 3 - i
 
--- src/main.rt:118:5
 loop-holds : tie.Need-loop-holds Inv-loop μ-loop
 loop-holds c = omega arith
 
--- src/main.rt:119:16
 row-wrong-requires : tie.Need-row-wrong-requires Inv-loop μ-loop
 row-wrong-requires c κs = search needs
 
--- src/main.rt:119:9
 add-sum : tie.Need-add-sum Inv-loop μ-loop
 add-sum c = omega arith
 
--- src/main.rt:120:9
 add-i : tie.Need-add-i Inv-loop μ-loop
 add-i c = omega arith
 
--- src/main.rt:118:5
 loop-less : tie.Need-loop-less Inv-loop μ-loop
 loop-less c = omega arith
 
--- src/main.rt:118:5
 loop-again : tie.Need-loop-again Inv-loop μ-loop
 loop-again c = omega arith
 
--- src/main.rt:113:1
 returns : tie.Need-returns Inv-loop μ-loop
 returns c = omega arith
 

@@ -2,52 +2,34 @@ use Rattle.json.proofs.Steps as steps
 use borrow.Author.Needs.{needs}
 use Rattle.json.proofs.keys.counterpart.Statement.{statement}
 use Rattle.json.proofs.keys.counterpart.Tie as tie
-use Rattle.json.proofs.keys.counterpart.Reads as reads
-use Rattle.json.proofs.keys.counterpart.Lts as lts
-use Rattle.json.proofs.keys.is_last.Reads as is-last-reads
-use Rattle.json.proofs.keys.key_value.Reads as key-value-reads
-use Rattle.layout.proofs.words.node_a.Reads as node-a-reads
-use Rattle.layout.proofs.words.node_kind.Reads as node-kind-reads
-use Rattle.lookup.proofs.entry_key.Reads as entry-key-reads
-use Rattle.lookup.proofs.entry_value.Reads as entry-value-reads
 
--- src/keys.rt:94:9
 entry-key-requires : tie.Need-entry-key-requires
 entry-key-requires c κs = search needs
 
--- src/keys.rt:95:8
 node-kind-requires : tie.Need-node-kind-requires
 node-kind-requires c κs = search needs
 
--- src/keys.rt:96:26
 entry-value-requires : tie.Need-entry-value-requires
 entry-value-requires c κs = search needs
 
--- src/keys.rt:96:9
 returns : tie.Need-returns
 returns c = steps.part-other _ _ _ _ _ _ _ (c .before .before .before .entry-key .ensures) (c .before .before .node-kind .ensures) (c .before .if1 .taken) (c .entry-value .ensures)
 
--- src/keys.rt:98:9
 node-a-requires : tie.Need-node-a-requires
 node-a-requires c κs = search needs
 
--- src/keys.rt:99:9
 is-last-requires : tie.Need-is-last-requires
 is-last-requires c κs = search needs
 
--- src/keys.rt:100:26
 entry-value-requires-2 : tie.Need-entry-value-requires-2
 entry-value-requires-2 c κs = search needs
 
--- src/keys.rt:100:9
 returns-2 : tie.Need-returns-2
 returns-2 c = steps.part-covered _ _ _ _ _ _ _ (c .before .before .before .before .before .before .entry-key .ensures) (c .before .before .before .before .before .node-kind .ensures) (c .before .before .before .before .if1 .left) (c .before .before .before .node-a .ensures) (c .before .before .is-last .ensures) (steps.denied _ (c .before .if2 .taken)) (c .entry-value2 .ensures)
 
--- src/keys.rt:102:5
 key-value-requires : tie.Need-key-value-requires
 key-value-requires c κs = search needs
 
--- src/keys.rt:83:1
 returns-3 : tie.Need-returns-3
 returns-3 c = steps.part-is _ _ _ _ _ _ _ (c .before .before .before .before .before .before .entry-key .ensures) (c .before .before .before .before .before .node-kind .ensures) (c .before .before .before .before .if1 .left) (c .before .before .before .node-a .ensures) (c .before .before .is-last .ensures) (steps.not-denied _ (c .before .if2 .left)) (c .key-value .ensures)
 

@@ -2,27 +2,19 @@ use Rattle.json.proofs.Steps as steps
 use borrow.Author.Needs.{needs}
 use Rattle.json.proofs.keys.is_last.Statement.{statement}
 use Rattle.json.proofs.keys.is_last.Tie as tie
-use Rattle.json.proofs.keys.is_last.Reads as reads
-use Rattle.json.proofs.keys.is_last.Lts as lts
-use Rattle.lookup.proofs.last_entry.Reads as last-entry-reads
 
--- src/keys.rt:19:9
 last-entry-requires : tie.Need-last-entry-requires
 last-entry-requires c κs = search needs
 
--- src/keys.rt:21:19
 enum-known-last : tie.Need-enum-known-last
 enum-known-last c = search needs
 
--- src/keys.rt:22:27
 enum-told : tie.Need-enum-told
 enum-told c = search needs
 
--- src/keys.rt:8:1
 returns : tie.Need-returns
 returns c = steps.last-is _ _ _ _ _ _ (c .before .before .before .last-entry .ensures) _ (c .before .last .given .1)
 
--- src/keys.rt:8:1
 returns-2 : tie.Need-returns-2
 returns-2 c = steps.last-missing _ _ _ _ _ _ (c .before .before .last-entry .ensures) _ (c .enum-told .given .1)
 

@@ -2,46 +2,31 @@ use Rattle.json.proofs.Steps as steps
 use borrow.Author.Needs.{needs}
 use Rattle.json.proofs.keys.key_in.Statement.{statement}
 use Rattle.json.proofs.keys.key_in.Tie as tie
-use Rattle.json.proofs.keys.key_in.Reads as reads
-use Rattle.json.proofs.keys.key_in.Lts as lts
-use Rattle.layout.proofs.words.node_a.Reads as node-a-reads
-use Rattle.layout.proofs.words.node_kind.Reads as node-kind-reads
-use Rattle.lookup.proofs.entry_key.Reads as entry-key-reads
-use Rattle.lookup.proofs.last_entry.Reads as last-entry-reads
 
--- src/keys.rt:56:9
 entry-key-requires : tie.Need-entry-key-requires
 entry-key-requires c κs = search needs
 
--- src/keys.rt:57:8
 node-kind-requires : tie.Need-node-kind-requires
 node-kind-requires c κs = search needs
 
--- src/keys.rt:58:9
 returns : tie.Need-returns
 returns c = steps.key-other _ _ _ _ _ _ _ (c .before .before .entry-key .ensures) (c .before .node-kind .ensures) (c .if1 .taken)
 
--- src/keys.rt:60:65
 node-a-requires : tie.Need-node-a-requires
 node-a-requires c κs = search needs
 
--- src/keys.rt:60:9
 last-entry-requires : tie.Need-last-entry-requires
 last-entry-requires c κs = search needs
 
--- src/keys.rt:62:25
 enum-told : tie.Need-enum-told
 enum-told c = search needs
 
--- src/keys.rt:63:27
 enum-told-2 : tie.Need-enum-told-2
 enum-told-2 c = search needs
 
--- src/keys.rt:45:1
 returns-2 : tie.Need-returns-2
 returns-2 c = steps.key-is _ _ _ _ _ _ _ (c .before .before .before .before .before .before .entry-key .ensures) (c .before .before .before .before .before .node-kind .ensures) (c .before .before .before .before .if1 .left) (c .before .before .before .node-a .ensures) (c .before .before .last-entry .ensures) (c .enum-told .given .1)
 
--- src/keys.rt:45:1
 returns-3 : tie.Need-returns-3
 returns-3 c = steps.key-missing _ _ _ _ _ _ _ (c .before .before .before .before .before .before .entry-key .ensures) (c .before .before .before .before .before .node-kind .ensures) (c .before .before .before .before .if1 .left) (c .before .before .before .node-a .ensures) (c .before .before .last-entry .ensures) (c .enum-told2 .given .1)
 

@@ -2,32 +2,22 @@ use Rattle.json.proofs.Steps as steps
 use borrow.Author.Needs.{needs}
 use Rattle.json.proofs.keys.key_value.Statement.{statement}
 use Rattle.json.proofs.keys.key_value.Tie as tie
-use Rattle.json.proofs.keys.key_value.Reads as reads
-use Rattle.json.proofs.keys.key_value.Lts as lts
-use Rattle.lookup.proofs.entry_value.Reads as entry-value-reads
-use Rattle.lookup.proofs.last_entry.Reads as last-entry-reads
 
--- src/keys.rt:37:9
 last-entry-requires : tie.Need-last-entry-requires
 last-entry-requires c κs = search needs
 
--- src/keys.rt:39:19
 enum-known-last : tie.Need-enum-known-last
 enum-known-last c = search needs
 
--- src/keys.rt:39:35
 entry-value-requires : tie.Need-entry-value-requires
 entry-value-requires c κs = search needs
 
--- src/keys.rt:40:27
 enum-told : tie.Need-enum-told
 enum-told c = search needs
 
--- src/keys.rt:27:1
 returns : tie.Need-returns
 returns c = steps.value-is _ _ _ _ _ _ (c .before .before .before .before .last-entry .ensures) (c .before .before .last .given .1) (c .entry-value .ensures)
 
--- src/keys.rt:27:1
 returns-2 : tie.Need-returns-2
 returns-2 c = steps.value-missing _ _ _ _ _ _ (c .before .before .last-entry .ensures) (c .enum-told .given .1)
 

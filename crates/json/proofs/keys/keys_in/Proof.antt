@@ -1,3 +1,4 @@
+-- `json::keys::keys_in`: the loop's invariant is that the whole is the rest from k on. Assumes nothing.
 use mathlib.Core.Path.{_≡_, sym, _∙_}
 use Prim.Native.Nat.{_≤_, _-_}
 use native.Mathlib.Omega.{arith}
@@ -8,10 +9,6 @@ use Rattle.json.specs.Walk.{keyInOf, keysInOf}
 use Rattle.json.proofs.Steps as steps
 use Rattle.json.proofs.keys.keys_in.Statement.{statement}
 use Rattle.json.proofs.keys.keys_in.Tie as tie
-use Rattle.json.proofs.keys.keys_in.Reads as reads
-use Rattle.json.proofs.keys.keys_in.Lts as lts
-use Rattle.json.proofs.keys.key_in.Reads as key-in-reads
-use Rattle.layout.proofs.words.node_b.Reads as node-b-reads
 
 abbrev Inv-loop : tie.InvT-loop
 Inv-loop pool texts nodes links a b count k₀ k = (k ≤ count) × (every (keyInOf pool texts nodes links a b) k count ≡ keysInOf pool texts nodes links a b)
@@ -19,35 +16,27 @@ Inv-loop pool texts nodes links a b count k₀ k = (k ≤ count) × (every (keyI
 abbrev μ-loop : tie.MeasureT-loop
 μ-loop pool texts nodes links a b count k₀ k = count - k
 
--- src/keys.rt:71:9
 node-b-requires : tie.Need-node-b-requires Inv-loop μ-loop
 node-b-requires c κs = search needs
 
--- src/keys.rt:73:5
 loop-holds : tie.Need-loop-holds Inv-loop μ-loop
 loop-holds c = (omega arith, steps.keys-start _ _ _ _ _ _ (c .node-b .ensures))
 
--- src/keys.rt:74:13
 key-in-requires : tie.Need-key-in-requires Inv-loop μ-loop
 key-in-requires c κs = search needs
 
--- src/keys.rt:75:13
 returns : tie.Need-returns Inv-loop μ-loop
 returns c = every-stop _ _ _ (c .before .before .before .loop .inv .1) (c .before .before .loop-test .taken) (sym (c .before .key-in .ensures) ∙ steps.denied _ (c .if1 .taken))
 
--- src/keys.rt:77:9
 add-k : tie.Need-add-k Inv-loop μ-loop
 add-k c = omega (arith, c .before .before .before .before .node-b .ok)
 
--- src/keys.rt:73:5
 loop-less : tie.Need-loop-less Inv-loop μ-loop
 loop-less c = omega arith
 
--- src/keys.rt:73:5
 loop-again : tie.Need-loop-again Inv-loop μ-loop
 loop-again c = (omega arith, every-more _ _ _ (c .before .before .before .loop .inv .1) (c .before .before .loop-test .taken) (sym (c .before .key-in .ensures) ∙ steps.not-denied _ (c .if1 .left)))
 
--- src/keys.rt:68:1
 returns-2 : tie.Need-returns-2 Inv-loop μ-loop
 returns-2 c = every-end _ _ _ (c .before .loop .inv .1) (c .before .loop .inv .0) (omega arith)
 

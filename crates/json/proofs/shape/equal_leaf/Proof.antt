@@ -2,74 +2,52 @@ use Rattle.json.proofs.Shapes as shapes
 use borrow.Author.Needs.{needs}
 use Rattle.json.proofs.shape.equal_leaf.Statement.{statement}
 use Rattle.json.proofs.shape.equal_leaf.Tie as tie
-use Rattle.json.proofs.shape.equal_leaf.Reads as reads
-use Rattle.json.proofs.shape.equal_leaf.Lts as lts
-use Rattle.json.proofs.shape.is_boolean.Reads as is-boolean-reads
-use Rattle.json.proofs.shape.is_null.Reads as is-null-reads
-use Rattle.json.proofs.shape.is_number.Reads as is-number-reads
-use Rattle.json.proofs.shape.is_text.Reads as is-text-reads
 
--- src/shape.rt:100:24
 enum-told : tie.Need-enum-told
 enum-told c = search needs
 
--- src/shape.rt:100:24
 is-null-requires : tie.Need-is-null-requires
 is-null-requires c κs = search needs
 
--- src/shape.rt:101:24
 enum-known-x : tie.Need-enum-known-x
 enum-known-x c = search needs
 
--- src/shape.rt:101:30
 is-boolean-requires : tie.Need-is-boolean-requires
 is-boolean-requires c κs = search needs
 
--- src/shape.rt:102:24
 enum-known-x-2 : tie.Need-enum-known-x-2
 enum-known-x-2 c = search needs
 
--- src/shape.rt:102:30
 is-number-requires : tie.Need-is-number-requires
 is-number-requires c κs = search needs
 
--- src/shape.rt:103:21
 enum-known-x-3 : tie.Need-enum-known-x-3
 enum-known-x-3 c = search needs
 
--- src/shape.rt:103:27
 is-text-requires : tie.Need-is-text-requires
 is-text-requires c κs = search needs
 
--- src/shape.rt:104:25
 enum-told-2 : tie.Need-enum-told-2
 enum-told-2 c = search needs
 
--- src/shape.rt:105:26
 enum-told-3 : tie.Need-enum-told-3
 enum-told-3 c = search needs
 
--- src/shape.rt:96:1
 returns : tie.Need-returns
 returns c = shapes.leaf-null _ _ _ _ (c .before .enum-told .given .1) (c .is-null .ensures)
 
--- src/shape.rt:96:1
 returns-2 : tie.Need-returns-2
 returns-2 c = shapes.leaf-boolean _ _ _ _ (c .before .before .x .given .1) (c .is-boolean .ensures)
 
--- src/shape.rt:96:1
 returns-3 : tie.Need-returns-3
 returns-3 c = shapes.leaf-number _ _ _ _ (c .before .before .x2 .given .1) (c .is-number .ensures)
 
--- src/shape.rt:96:1
 returns-4 : tie.Need-returns-4
 returns-4 c = shapes.leaf-text _ _ _ _ (c .before .before .x3 .given .1) (c .is-text .ensures)
 
--- src/shape.rt:96:1
 returns-5 : tie.Need-returns-5
 returns-5 c = shapes.leaf-array _ _ _ _ (c .enum-told2 .given .1)
 
--- src/shape.rt:96:1
 returns-6 : tie.Need-returns-6
 returns-6 c = shapes.leaf-object _ _ _ _ (c .enum-told3 .given .1)
 

@@ -3,18 +3,13 @@ use Rattle.json.proofs.Shapes as shapes
 use borrow.Author.Needs.{needs}
 use Rattle.json.proofs.shape.is_boolean.Statement.{statement}
 use Rattle.json.proofs.shape.is_boolean.Tie as tie
-use Rattle.json.proofs.shape.is_boolean.Reads as reads
-use Rattle.json.proofs.shape.is_boolean.Lts as lts
 
--- src/shape.rt:72:24
 enum-known-y : tie.Need-enum-known-y
 enum-known-y c = search needs
 
--- src/shape.rt:68:1
 returns : tie.Need-returns
 returns c = simp (c .before .y .given .1)
 
--- src/shape.rt:68:1
 returns-2 : tie.Need-returns-2
 returns-2 c = shapes.not-boolean (c .before .args .pool .now) (c .before .args .texts .now) (eqb (c .before .args .a)) (c .before .args .y) (c .match .keys2)
 

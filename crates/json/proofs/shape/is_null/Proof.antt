@@ -2,18 +2,13 @@ use Rattle.json.proofs.Shapes as shapes
 use borrow.Author.Needs.{needs}
 use Rattle.json.proofs.shape.is_null.Statement.{statement}
 use Rattle.json.proofs.shape.is_null.Tie as tie
-use Rattle.json.proofs.shape.is_null.Reads as reads
-use Rattle.json.proofs.shape.is_null.Lts as lts
 
--- src/shape.rt:63:24
 enum-told : tie.Need-enum-told
 enum-told c = search needs
 
--- src/shape.rt:59:1
 returns : tie.Need-returns
 returns c = search needs
 
--- src/shape.rt:59:1
 returns-2 : tie.Need-returns-2
 returns-2 c = shapes.not-null (c .before .args .pool .now) (c .before .args .texts .now) (c .before .args .y) (c .match .keys2)
 

@@ -3,23 +3,16 @@ use Rattle.json.proofs.Shapes as shapes
 use borrow.Author.Needs.{needs}
 use Rattle.json.proofs.shape.is_number.Statement.{statement}
 use Rattle.json.proofs.shape.is_number.Tie as tie
-use Rattle.json.proofs.shape.is_number.Reads as reads
-use Rattle.json.proofs.shape.is_number.Lts as lts
-use Rattle.number.proofs.equal.equal_numbers.Reads as equal-numbers-reads
 
--- src/shape.rt:81:24
 enum-known-y : tie.Need-enum-known-y
 enum-known-y c = search needs
 
--- src/shape.rt:81:30
 equal-numbers-requires : tie.Need-equal-numbers-requires
 equal-numbers-requires c κs = search needs
 
--- src/shape.rt:77:1
 returns : tie.Need-returns
 returns c = simp (c .before .before .y .given .1) (c .equal-numbers .ensures)
 
--- src/shape.rt:77:1
 returns-2 : tie.Need-returns-2
 returns-2 c = shapes.not-number (c .before .before .before .args .pool .now) (c .before .before .before .args .texts .now) (equalNumbersOf (c .before .before .before .args .way) (c .before .before .before .args .v)) (c .before .before .before .args .y) (c .match .keys2)
 

@@ -5,23 +5,16 @@ use Rattle.json.proofs.Shapes as shapes
 use borrow.Author.Needs.{needs}
 use Rattle.json.proofs.shape.is_text.Statement.{statement}
 use Rattle.json.proofs.shape.is_text.Tie as tie
-use Rattle.json.proofs.shape.is_text.Reads as reads
-use Rattle.json.proofs.shape.is_text.Lts as lts
-use Rattle.text.proofs.same_text.Reads as same-text-reads
 
--- src/shape.rt:90:21
 enum-known-y : tie.Need-enum-known-y
 enum-known-y c = search needs
 
--- src/shape.rt:90:27
 same-text-requires : tie.Need-same-text-requires
 same-text-requires c κs = search needs
 
--- src/shape.rt:86:1
 returns : tie.Need-returns
 returns c = simp (c .before .before .y .given .1) (c .same-text .ensures ∙ same-text-bytes _ _ _ _)
 
--- src/shape.rt:86:1
 returns-2 : tie.Need-returns-2
 returns-2 c = shapes.not-text (c .before .before .before .args .pool .now) (c .before .before .before .args .texts .now) (sameBytes (textOf (c .before .before .before .args .pool .now) (c .before .before .before .args .texts .now) (c .before .before .before .args .t))) (c .before .before .before .args .y) (c .match .keys2)
 

@@ -5,25 +5,17 @@ use Rattle.json.specs.Value.{realShape, parsedShape}
 use borrow.Author.Needs.{needs}
 use Rattle.json.proofs.shape.parsed_shape.Statement.{statement}
 use Rattle.json.proofs.shape.parsed_shape.Tie as tie
-use Rattle.json.proofs.shape.parsed_shape.Reads as reads
-use Rattle.json.proofs.shape.parsed_shape.Lts as lts
-use Rattle.json.proofs.shape.real_shape.Reads as real-shape-reads
-use Rattle.text.proofs.number_word.Reads as number-word-reads
 
--- src/shape.rt:39:9
 returns : tie.Need-returns
 unfolding parsedShape
 returns c = sym (pick-yes _ _ (eq-eqb _ _ (c .if1 .taken)))
 
--- src/shape.rt:41:16
 number-word-requires : tie.Need-number-word-requires
 number-word-requires c κs = search needs
 
--- src/shape.rt:41:5
 real-shape-requires : tie.Need-real-shape-requires
 real-shape-requires c κs = search needs
 
--- src/shape.rt:35:1
 returns-2 : tie.Need-returns-2
 unfolding parsedShape
 returns-2 c = c .real-shape .ensures ∙ ap realShape (c .before .number-word .ensures) ∙ sym (pick-no _ _ (ne-eqb _ _ (c .before .before .if1 .left)))

@@ -1,4 +1,4 @@
-use Rattle.tables.specs.Records.{countsIn}
+use Rattle.rules.specs.Records.{countsIn}
 use borrow.Author.Needs.{needs}
 use Rattle.tables.proofs.check.counts.Statement.{statement}
 use Rattle.tables.proofs.check.counts.Tie as tie

@@ -1,0 +1,30 @@
+use Rattle.rules.specs.Schemas.{schemaOk}
+use borrow.Author.Needs.{needs}
+use Rattle.rules.proofs.schemas.schema_ok.Statement.{statement}
+use Rattle.rules.proofs.schemas.schema_ok.Tie as tie
+
+schema-note-ok-requires : tie.Need-schema-note-ok-requires
+schema-note-ok-requires c κs = search needs
+
+schema-kind-requires : tie.Need-schema-kind-requires
+schema-kind-requires c κs = search needs
+
+schema-rule-requires : tie.Need-schema-rule-requires
+schema-rule-requires c κs = search needs
+
+both-requires : tie.Need-both-requires
+both-requires c κs = search needs
+
+returns : tie.Need-returns
+unfolding schemaOk
+returns c = cc
+
+pub schema-ok-spec : {M : Type 1} → statement M
+schema-ok-spec =
+    tie.close
+    (tie.spec
+    schema-note-ok-requires
+    schema-kind-requires
+    schema-rule-requires
+    both-requires
+    returns)

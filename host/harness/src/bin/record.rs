@@ -1,0 +1,66 @@
+//! `record KIND SEED CALLS FILE` stores answers; `record --replay FILE` runs
+//! them through every checker that is built in.
+
+use quarto_yaml_harness::guard::{checkers, with_large_stack};
+use quarto_yaml_harness::record::{Kind, bytes, replay, sample, words};
+use quarto_yaml_oracle::PRESENT;
+use std::process::ExitCode;
+
+const USAGE: &str = "usage: record navigate|damaged-navigate|validate|compile SEED CALLS FILE | record --replay FILE";
+
+fn main() -> ExitCode {
+    let arguments: Vec<String> = std::env::args().skip(1).collect();
+    let result = with_large_stack(move || {
+        let words: Vec<&str> = arguments.iter().map(String::as_str).collect();
+        match words[..] {
+            ["--replay", file] => again(file),
+            [kind, seed, calls, file] => store(kind, seed, calls, file),
+            _ => Err(USAGE.to_string()),
+        }
+    });
+    match result {
+        Ok(()) => ExitCode::SUCCESS,
+        Err(message) => {
+            eprintln!("{message}");
+            ExitCode::FAILURE
+        }
+    }
+}
+
+fn store(kind: &str, seed: &str, calls: &str, file: &str) -> Result<(), String> {
+    if !PRESENT {
+        return Err("record: not run, the original's source is not there".to_string());
+    }
+    let known = Kind::NAMES.into_iter().find(|(name, _)| *name == kind);
+    let (_, kind) = known.ok_or(USAGE)?;
+    let number = |text: &str| text.parse::<u64>().map_err(|_| USAGE.to_string());
+    let sample = sample(kind, number(seed)?, number(calls)? as usize)?;
+    let stored = sample.groups.iter().flat_map(|group| &group.stored);
+    let (calls, by_original) = stored.fold((0, 0), |(all, original), stored| {
+        (all + 1, original + usize::from(stored.by_original))
+    });
+    let bytes = bytes(&words(&sample));
+    std::fs::write(file, &bytes).map_err(|error| format!("{file}: {error}"))?;
+    println!(
+        "record: {file}: {calls} calls over {} tables, {by_original} by the original, {} bytes",
+        sample.groups.len(),
+        bytes.len()
+    );
+    Ok(())
+}
+
+fn again(file: &str) -> Result<(), String> {
+    let bytes = std::fs::read(file).map_err(|error| format!("{file}: {error}"))?;
+    for (name, checker) in checkers() {
+        let replayed =
+            replay(&bytes, checker.as_ref()).ok_or(format!("{file}: cannot be replayed"))?;
+        println!(
+            "replay: {file}: {name}: {} calls, {} by the original, {} wrong",
+            replayed.calls, replayed.by_original, replayed.wrong
+        );
+        if replayed.wrong > 0 {
+            return Err(format!("replay: {name} answers otherwise"));
+        }
+    }
+    Ok(())
+}

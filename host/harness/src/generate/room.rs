@@ -1,0 +1,77 @@
+//! The room behind the used counts that compiling is lent.
+
+use crate::case::{Case, Request};
+use crate::rng::Rng;
+use quarto_yaml_model::Model;
+use quarto_yaml_tables::layout::{LINKS, NONE, NOTES, SCHEMAS, Table};
+use quarto_yaml_tables::{Checker, RawTables};
+
+const GROWING: [Table; 3] = [NOTES, SCHEMAS, LINKS];
+
+/// A compile over these tables, with room that is ample, exact, short or at the limits.
+pub fn compile(
+    mut tables: RawTables,
+    schema: u32,
+    rng: &mut Rng,
+    request: impl FnOnce([u32; 3]) -> Request,
+) -> Case {
+    if rng.below(400) == 0 {
+        near_limits(&mut tables, rng);
+    }
+    let used = GROWING.map(|table| tables.count(table) as u32);
+    let mut spare = [60, 400, 1_500];
+    if rng.percent(15) {
+        spare = needed(&tables, used, schema);
+        let place = rng.below(3);
+        if rng.percent(50) && spare[place] > 0 {
+            spare[place] -= 1;
+        } else {
+            spare[place] += rng.below(2);
+        }
+    } else if rng.percent(4) {
+        spare = [rng.below(4), rng.below(8), rng.below(20)];
+    }
+    for (table, spare) in GROWING.into_iter().zip(spare) {
+        let ragged = if rng.percent(30) {
+            rng.below(table.words)
+        } else {
+            0
+        };
+        let words = tables.words_mut(table);
+        let end = words.len() + spare * table.words + ragged;
+        let stain = rng.garbage();
+        words.resize(end, stain);
+    }
+    Case {
+        tables,
+        request: request(used),
+    }
+}
+
+/// The room that this compile takes, by the second judge.
+fn needed(tables: &RawTables, used: [u32; 3], schema: u32) -> [usize; 3] {
+    let mut tables = tables.clone();
+    for (table, spare) in GROWING.into_iter().zip([60, 400, 1_500]) {
+        let words = tables.words_mut(table);
+        words.resize(words.len() + spare * table.words, 0);
+    }
+    let answer = Model.compile(&mut tables, used, schema);
+    let after = [answer.used_notes, answer.used_schemas, answer.used_links];
+    [0, 1, 2].map(|place| (after[place] - used[place]) as usize)
+}
+
+/// Fills one of the three tables up to a few records under its limit.
+fn near_limits(tables: &mut RawTables, rng: &mut Rng) {
+    let (table, filler): (Table, &[u32]) = match rng.below(3) {
+        0 => (NOTES, &[NONE, NONE, NONE, NONE, NONE, NONE, NONE, NONE, 0]),
+        1 => (
+            SCHEMAS,
+            &[0, NONE, 0, 0, 0, 0, 0, 0, 0, 0, 0, 0, 0, 0, 0, 0],
+        ),
+        _ => (LINKS, &[0]),
+    };
+    let left = rng.below(12);
+    while tables.count(table) + left < table.most {
+        tables.words_mut(table).extend_from_slice(filler);
+    }
+}

@@ -1,0 +1,15 @@
+//! Generated cases, the comparison of every checker with the original and with
+//! the second judge, the shrinker, and the stored answers.
+
+pub mod case;
+pub mod generate;
+pub mod guard;
+pub mod judge;
+pub mod pattern;
+pub mod plant;
+pub mod record;
+pub mod remote;
+pub mod rng;
+pub mod run;
+pub mod shrink;
+pub mod tally;

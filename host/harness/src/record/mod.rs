@@ -1,0 +1,12 @@
+//! Stored answers, for replay where neither the original nor Rust is at hand.
+//!
+//! The format is described in `host/REPLAY.md`.
+
+mod read;
+mod select;
+mod write;
+
+pub use read::{Replayed, replay};
+pub use select::{Kind, Sample, sample};
+pub(crate) use write::mode_number;
+pub use write::{HEADER_WORDS, MAGIC, VERSION, bytes, words};

@@ -1,0 +1,1 @@
+// Stands in for the absent readers of each kind of schema.
