@@ -2,7 +2,7 @@
 //! them through every checker that is built in.
 
 use quarto_yaml_harness::guard::{checkers, with_large_stack};
-use quarto_yaml_harness::record::{Kind, bytes, replay, sample, words};
+use quarto_yaml_harness::record::{Kind, bytes, replay, sample, stored_call, words};
 use quarto_yaml_oracle::PRESENT;
 use std::process::ExitCode;
 
@@ -51,9 +51,14 @@ fn store(kind: &str, seed: &str, calls: &str, file: &str) -> Result<(), String> 
 
 fn again(file: &str) -> Result<(), String> {
     let bytes = std::fs::read(file).map_err(|error| format!("{file}: {error}"))?;
+    let damaged = || format!("{file}: cannot be replayed");
+    let call = stored_call(&bytes).ok_or_else(damaged)?;
     for (name, checker) in checkers() {
-        let replayed =
-            replay(&bytes, checker.as_ref()).ok_or(format!("{file}: cannot be replayed"))?;
+        if !checker.has(call) {
+            println!("replay: {file}: {name}: has no such call yet");
+            continue;
+        }
+        let replayed = replay(&bytes, checker.as_ref()).ok_or_else(damaged)?;
         println!(
             "replay: {file}: {name}: {} calls, {} by the original, {} wrong",
             replayed.calls, replayed.by_original, replayed.wrong

@@ -6,7 +6,7 @@ mod read;
 mod select;
 mod write;
 
-pub use read::{Replayed, replay};
+pub use read::{Replayed, replay, stored_call};
 pub use select::{Kind, Sample, sample};
 pub(crate) use write::mode_number;
 pub use write::{HEADER_WORDS, MAGIC, VERSION, bytes, words};

@@ -4,7 +4,7 @@ use super::write::{HEADER_WORDS, MAGIC, VERSION};
 use crate::case::{Case, Request, WORD_TABLES};
 use crate::run::{Outcome, run};
 use quarto_yaml_tables::layout::{LINKS, NOTES, SCHEMAS};
-use quarto_yaml_tables::{Answer, Checker, Mode, RawTables};
+use quarto_yaml_tables::{Answer, Call, Checker, Mode, RawTables};
 
 /// What a replay came to.
 #[derive(Clone, Copy, Debug, Default, PartialEq, Eq)]
@@ -38,6 +38,17 @@ pub fn replay(file: &[u8], checker: &dyn Checker) -> Option<Replayed> {
         }
     }
     reader.words.is_empty().then_some(replayed)
+}
+
+/// The call that a stored file is of.
+pub fn stored_call(file: &[u8]) -> Option<Call> {
+    let word = file.get(8..12)?;
+    match u32::from_le_bytes(word.try_into().ok()?) {
+        0 => Some(Call::Navigate),
+        1 => Some(Call::Validate),
+        2 => Some(Call::Compile),
+        _ => None,
+    }
 }
 
 struct Reader<'a> {
