@@ -177,7 +177,7 @@ typedef struct {
     uint32_t detail; /* QY_DETAIL_.. */
     uint32_t a, b;
     uint32_t instance_steps, schema_steps; /* 1 to 14: how long the two paths are, in steps */
-    uint32_t used_notes, used_schemas, used_links; /* records in use, after a compile */
+    uint32_t used_notes, used_schemas, used_links; /* records in use, after a compile; else QY_NONE */
     double value, bound;
 } qy_answer;
 
@@ -209,6 +209,57 @@ qy_answer qy_navigate(const uint8_t *pool, size_t pool_bytes,
                       uint32_t node,
                       const uint32_t *path, size_t path_words,
                       bool key_wanted);
+
+/* Checks a node against a schema. QY_OK: accepted. 1 to 14: refused; the two
+ * buffers then hold the paths to the value and to the schema, `instance_steps`
+ * pairs of words (QY_STEP_..) and `schema_steps` kinds (QY_SCHEMA_..), and 0
+ * behind them. After any other answer both buffers are all 0, short ones too.
+ * `instance` has at least QY_INSTANCE_PATH_WORDS words, `steps` at least
+ * QY_SCHEMA_PATH_WORDS. qy_validate names no mode, which means source mode:
+ * lengths are bytes, and an integer never equals a real. In standard mode
+ * lengths are code points, and in enum and unique an integer equals a real when
+ * its nearest double does, and 0.0 equals -0.0. Bases are not merged. */
+qy_answer qy_validate(
+    const uint8_t *pool, size_t pool_bytes,
+    const uint32_t *texts, size_t text_words,
+    const uint32_t *nodes, size_t node_words,
+    const uint32_t *notes, size_t note_words,
+    const uint32_t *schemas, size_t schema_words,
+    const uint32_t *registry, size_t registry_words,
+    const uint32_t *patterns, size_t pattern_words,
+    const uint32_t *links, size_t link_words,
+    const uint64_t *numbers, size_t number_words,
+    uint32_t node, uint32_t schema,
+    uint32_t *instance, size_t instance_words,
+    uint32_t *steps, size_t step_words);
+
+qy_answer qy_validate_source(
+    const uint8_t *pool, size_t pool_bytes,
+    const uint32_t *texts, size_t text_words,
+    const uint32_t *nodes, size_t node_words,
+    const uint32_t *notes, size_t note_words,
+    const uint32_t *schemas, size_t schema_words,
+    const uint32_t *registry, size_t registry_words,
+    const uint32_t *patterns, size_t pattern_words,
+    const uint32_t *links, size_t link_words,
+    const uint64_t *numbers, size_t number_words,
+    uint32_t node, uint32_t schema,
+    uint32_t *instance, size_t instance_words,
+    uint32_t *steps, size_t step_words);
+
+qy_answer qy_validate_standard(
+    const uint8_t *pool, size_t pool_bytes,
+    const uint32_t *texts, size_t text_words,
+    const uint32_t *nodes, size_t node_words,
+    const uint32_t *notes, size_t note_words,
+    const uint32_t *schemas, size_t schema_words,
+    const uint32_t *registry, size_t registry_words,
+    const uint32_t *patterns, size_t pattern_words,
+    const uint32_t *links, size_t link_words,
+    const uint64_t *numbers, size_t number_words,
+    uint32_t node, uint32_t schema,
+    uint32_t *instance, size_t instance_words,
+    uint32_t *steps, size_t step_words);
 
 /* Where a text lies in the pool. A wrong number, or a record that runs off the
  * pool, gives the empty part (0, 0). */

@@ -1,2 +1,3 @@
 pub mod Flat
 pub mod Span
+pub mod Validated

@@ -1,0 +1,186 @@
+// Runs stored calls again and compares each with its stored answer.
+//
+// The input is stored files, one behind the other; host/REPLAY.md has their format. They were written by
+// `host/record navigate 1 4000 FILE` and `host/record damaged-navigate 1 1500 FILE`: 5,503 calls. Each answer is the second
+// judge's (host/model); of 3,018 calls, marked 1, the original was asked too, and agreed. The used counts of a call that is no
+// compile have to be NONE, whatever is stored.
+mod answer;
+mod navigation;
+mod stored;
+
+use stored::Group;
+
+const OUT: i32 = 1;
+
+// The first two words of a stored file, and how many words stand before its groups.
+const MARK: u32 = 1348031057;
+
+const FORMAT: u32 = 1;
+
+const HEADER_WORDS: u32 = 8;
+
+const NAVIGATE: u32 = 0;
+
+const MOST_FILES: u32 = 16;
+
+// How far the run is: calls met, calls answered otherwise, and the words that are at hand.
+struct Run {
+    calls: u32,
+    wrong: u32,
+    at: usize,
+    end: usize,
+}
+
+// A run that cannot go on: its place is past the end.
+fn fails(run: Run, line: &[u8]) -> Run {
+    io::write_all(OUT, line);
+    Run {
+        calls: run.calls,
+        wrong: std::num::wrapping_add_u32(run.wrong, 1),
+        at: 4294967296,
+        end: 0,
+    }
+}
+
+fn refilled(run: Run, chunk: &mut [u8], input: &mut [u32]) -> Run {
+    let held = stored::refill(chunk, input, run.at, run.end);
+    Run {
+        calls: run.calls,
+        wrong: run.wrong,
+        at: held.at,
+        end: held.end,
+    }
+}
+
+fn placed(run: Run, at: usize) -> Run {
+    Run {
+        calls: run.calls,
+        wrong: run.wrong,
+        at,
+        end: run.end,
+    }
+}
+
+// One call: by its number in the file's header.
+fn run_call(
+    call: u32,
+    input: &[u32],
+    run: Run,
+    group: Group,
+    words: &[u32],
+    pool: &[u8],
+    numbers: &[u64],
+) -> Run {
+    let calls = std::num::wrapping_add_u32(run.calls, 1);
+    match call {
+        NAVIGATE => {
+            let met = navigation::run(calls, input, run.at, group, words, pool, numbers);
+            Run {
+                calls,
+                wrong: std::num::wrapping_add_u32(run.wrong, met.wrong),
+                at: met.after,
+                end: run.end,
+            }
+        }
+        _ => fails(run, b"a call of no known number\n"),
+    }
+}
+
+fn run_group(
+    call: u32,
+    input: &[u32],
+    before: Run,
+    words: &mut [u32],
+    pool: &mut [u8],
+    numbers: &mut [u64],
+) -> Run {
+    let group = stored::unpack(input, before.at, words, pool, numbers);
+    let count = stored::word(input, group.after, 0);
+    let mut run = placed(before, stored::after(group.after, 1));
+    let mut i: u32 = 0;
+    while i < count {
+        run = run_call(call, input, run, group, words, pool, numbers);
+        i += 1;
+    }
+    run
+}
+
+fn run_file(
+    before: Run,
+    chunk: &mut [u8],
+    input: &mut [u32],
+    words: &mut [u32],
+    pool: &mut [u8],
+    numbers: &mut [u64],
+) -> Run {
+    let call = stored::word(input, before.at, 2);
+    let count = stored::word(input, before.at, 3);
+    let mut run = placed(before, stored::after(before.at, HEADER_WORDS));
+    let mut i: u32 = 0;
+    while i < count {
+        run = refilled(run, chunk, input);
+        run = run_group(
+            call,
+            stored::part(input, 0, run.end),
+            run,
+            words,
+            pool,
+            numbers,
+        );
+        i += 1;
+    }
+    refilled(run, chunk, input)
+}
+
+fn is_file(input: &[u32], at: usize) -> bool {
+    if stored::word(input, at, 0) == MARK {
+        return stored::word(input, at, 1) == FORMAT;
+    }
+    false
+}
+
+fn run_next(
+    run: Run,
+    chunk: &mut [u8],
+    input: &mut [u32],
+    words: &mut [u32],
+    pool: &mut [u8],
+    numbers: &mut [u64],
+) -> Run {
+    if is_file(input, run.at) {
+        return run_file(run, chunk, input, words, pool, numbers);
+    }
+    fails(run, b"no stored file where one has to start\n")
+}
+
+fn run_all(
+    chunk: &mut [u8],
+    input: &mut [u32],
+    words: &mut [u32],
+    pool: &mut [u8],
+    numbers: &mut [u64],
+) {
+    let nothing = Run {
+        calls: 0,
+        wrong: 0,
+        at: 0,
+        end: 0,
+    };
+    let mut run = refilled(nothing, chunk, input);
+    let mut files: u32 = 0;
+    while files < MOST_FILES && run.at < run.end {
+        run = run_next(run, chunk, input, words, pool, numbers);
+        files += 1;
+    }
+    answer::print(run.calls, b" calls, ");
+    answer::print(run.wrong, b" wrong\n");
+}
+
+fn main() {
+    let mut chunk = [0u8; 65536];
+    let mut input = [0u32; 65536];
+    let mut words = [0u32; 131072];
+    let mut pool = [0u8; 66560];
+    let mut numbers = [0u64; 4608];
+    run_all(&mut chunk, &mut input, &mut words, &mut pool, &mut numbers);
+}

@@ -1,0 +1,5 @@
+pub mod Buffers
+pub mod Leaves
+pub mod Loops
+pub mod ByKind
+pub mod Ends

@@ -1,0 +1,5 @@
+pub mod Outcome
+pub mod Visit
+pub mod Nodes
+pub mod Validate
+pub mod Met
