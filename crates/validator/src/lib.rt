@@ -1,6 +1,6 @@
 // Validation: a value against a schema.
-pub mod paths;
-pub mod walk;
+mod paths;
+mod walk;
 
 ghost use mathlib.Core.Path.{_≡_};
 ghost use lib.ListN.{length};
