@@ -85,7 +85,7 @@ fn expected(input: &[u32], at: usize, field: u32, compiled: bool) -> u32 {
 }
 
 // 1 where this field or one before is another than expected; each such field is printed.
-fn judge(call: u32, field: u32, expected: u32, found: u32, wrong: u32) -> u32 {
+pub fn judge(call: u32, field: u32, expected: u32, found: u32, wrong: u32) -> u32 {
     if expected == found {
         return wrong;
     }

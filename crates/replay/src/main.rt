@@ -3,11 +3,14 @@
 // The input is stored files, one behind the other; host/REPLAY.md has their format. They were written by
 // `host/record navigate 1 4000 FILE` and `host/record damaged-navigate 1 1500 FILE`: 5,503 calls. Each answer is the second
 // judge's (host/model); of 3,018 calls, marked 1, the original was asked too, and agreed. The used counts of a call that is no
-// compile have to be NONE, whatever is stored.
+// compile have to be NONE, whatever is stored. The last file, of `host/record json 1 2000 FILE`, has 2,016 pairs of nodes:
+// whether they are equal as JSON is the original's answer, from its own conversion.
 mod answer;
+mod equality;
 mod navigation;
 mod stored;
 
+use answer::Met;
 use stored::Group;
 
 const OUT: i32 = 1;
@@ -20,6 +23,8 @@ const FORMAT: u32 = 1;
 const HEADER_WORDS: u32 = 8;
 
 const NAVIGATE: u32 = 0;
+
+const EQUAL: u32 = 3;
 
 const MOST_FILES: u32 = 16;
 
@@ -61,6 +66,16 @@ fn placed(run: Run, at: usize) -> Run {
     }
 }
 
+// A run behind one more call.
+fn counted(run: Run, met: Met) -> Run {
+    Run {
+        calls: std::num::wrapping_add_u32(run.calls, 1),
+        wrong: std::num::wrapping_add_u32(run.wrong, met.wrong),
+        at: met.after,
+        end: run.end,
+    }
+}
+
 // One call: by its number in the file's header.
 fn run_call(
     call: u32,
@@ -73,15 +88,14 @@ fn run_call(
 ) -> Run {
     let calls = std::num::wrapping_add_u32(run.calls, 1);
     match call {
-        NAVIGATE => {
-            let met = navigation::run(calls, input, run.at, group, words, pool, numbers);
-            Run {
-                calls,
-                wrong: std::num::wrapping_add_u32(run.wrong, met.wrong),
-                at: met.after,
-                end: run.end,
-            }
-        }
+        NAVIGATE => counted(
+            run,
+            navigation::run(calls, input, run.at, group, words, pool, numbers),
+        ),
+        EQUAL => counted(
+            run,
+            equality::run(calls, input, run.at, group, words, pool, numbers),
+        ),
         _ => fails(run, b"a call of no known number\n"),
     }
 }

@@ -3,9 +3,12 @@
 use quarto_yaml_harness::case::{Case, Request};
 use quarto_yaml_harness::generate::{self, Stream};
 use quarto_yaml_harness::guard::with_large_stack;
-use quarto_yaml_harness::record::{Kind, bytes, replay, sample, words};
+use quarto_yaml_harness::record::{
+    Kind, bytes, pair_words, pairs, replay, replay_pairs, sample, words,
+};
 use quarto_yaml_harness::shrink::shrink;
 use quarto_yaml_model::{Model, check, check_used};
+use quarto_yaml_oracle::PRESENT;
 use quarto_yaml_tables::{Answer, Checker, Mode, RawTables};
 
 #[test]
@@ -130,5 +133,25 @@ fn stored_answers_are_replayed() {
         let sample = sample(Kind::Validate, 5, 3_000).expect("every answer number");
         let replayed = replay(&bytes(&words(&sample)), &Lenient).expect("readable");
         assert!(replayed.wrong > 0);
+    });
+}
+
+#[test]
+fn stored_pairs_are_compared_again() {
+    if !PRESENT {
+        return;
+    }
+    with_large_stack(|| {
+        let stored = pairs(5, 3_000).expect("judges that agree");
+        assert!(stored.count() >= 3_000);
+        let mut words = pair_words(&stored);
+        let file = bytes(&words);
+        let replayed = replay_pairs(&file).expect("a file that can be read");
+        assert_eq!((replayed.calls, replayed.wrong), (stored.count(), 0));
+        assert_eq!(replay_pairs(&file[..file.len() - 4]), None);
+        let last = words.len() - 1;
+        words[last] ^= 1;
+        let replayed = replay_pairs(&bytes(&words)).expect("readable");
+        assert_eq!(replayed.wrong, 1);
     });
 }

@@ -14,6 +14,7 @@ mod room;
 mod visit;
 
 pub use check::{Bad, Counts, check, check_used};
+pub use json::{Equality, equal};
 
 use quarto_yaml_tables::{Answer, Checker, Mode, RawTables};
 

@@ -11,7 +11,7 @@ use quarto_source_map::SourceContext;
 use quarto_yaml_tables::layout::NONE;
 use quarto_yaml_tables::{Answer, Detail as Given, RawTables};
 use quarto_yaml_validation::error::{SchemaResult, ValidationResult};
-use quarto_yaml_validation::validator::{self, advertised_types};
+use quarto_yaml_validation::validator::{self, advertised_types, json_of};
 use quarto_yaml_validation::{
     InstancePath, Schema, SchemaError, SchemaRegistry, ValidationError, ValidationErrorKind,
 };
@@ -29,6 +29,12 @@ pub fn navigate(tables: &RawTables, node: u32, path: &[u32], key_wanted: bool) -
     let start = value(tables, node);
     validator::navigate(&steps, &start, key_wanted, 0)
         .map(|found| found.source_info.start_offset() as u32)
+}
+
+/// Whether two nodes are equal as enum compares, and as unique does.
+pub fn equal(tables: &RawTables, left: u32, right: u32) -> [bool; 2] {
+    let [left, right] = [left, right].map(|node| json_of(&value(tables, node).yaml));
+    [left == right, format!("{left:?}") == format!("{right:?}")]
 }
 
 /// What the original says of a node under a schema.

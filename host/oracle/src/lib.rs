@@ -54,6 +54,11 @@ impl Oracle {
         judge::navigate(tables, node, path, key_wanted)
     }
 
+    /// Whether two nodes are equal as enum compares, and as unique does.
+    pub fn equal(&self, tables: &RawTables, left: u32, right: u32) -> [bool; 2] {
+        judge::equal(tables, left, right)
+    }
+
     /// What the original says of a node under a schema.
     pub fn validate(&self, tables: &RawTables, node: u32, schema: u32) -> Validated {
         judge::validate(tables, node, schema)
@@ -95,6 +100,10 @@ impl Oracle {
 #[allow(missing_docs)]
 impl Oracle {
     pub fn navigate(&self, _: &RawTables, _: u32, _: &[u32], _: bool) -> Option<u32> {
+        absent()
+    }
+
+    pub fn equal(&self, _: &RawTables, _: u32, _: u32) -> [bool; 2] {
         absent()
     }
 

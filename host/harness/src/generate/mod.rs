@@ -4,6 +4,7 @@ mod build;
 mod damage;
 mod deep;
 mod objects;
+mod pairs;
 mod paths;
 mod room;
 mod schemas;
@@ -13,6 +14,7 @@ use crate::case::{Case, Request};
 use crate::judge::Ask;
 use crate::rng::Rng;
 use build::Build;
+pub use pairs::pairs;
 use quarto_yaml_tables::layout::{INSTANCE_WORDS, SCHEMA_WORDS};
 use quarto_yaml_tables::{Mode, RawTables};
 

@@ -2,10 +2,12 @@
 //!
 //! The format is described in `host/REPLAY.md`.
 
+mod pairs;
 mod read;
 mod select;
 mod write;
 
+pub use pairs::{Pairs, holds_pairs, pair_words, pairs, replay_pairs};
 pub use read::{Replayed, replay, stored_call};
 pub use select::{Kind, Sample, sample};
 pub(crate) use write::mode_number;

@@ -19,6 +19,16 @@ pub struct Replayed {
 
 /// Runs a file's calls through a checker; nothing where the file is not one.
 pub fn replay(file: &[u8], checker: &dyn Checker) -> Option<Replayed> {
+    each(file, |reader, kind, tables| {
+        reader.call(kind, tables, checker)
+    })
+}
+
+/// Meets each call of a file behind its mark; nothing where the file is not one.
+pub(super) fn each(
+    file: &[u8],
+    mut right: impl FnMut(&mut Reader, u32, &RawTables) -> Option<bool>,
+) -> Option<Replayed> {
     let words: Vec<u32> = file
         .chunks_exact(4)
         .map(|bytes| u32::from_le_bytes(bytes.try_into().expect("four bytes")))
@@ -34,7 +44,7 @@ pub fn replay(file: &[u8], checker: &dyn Checker) -> Option<Replayed> {
             let by_original = reader.word()? == 1;
             replayed.calls += 1;
             replayed.by_original += usize::from(by_original);
-            replayed.wrong += usize::from(!reader.call(kind, &tables, checker)?);
+            replayed.wrong += usize::from(!right(&mut reader, kind, &tables)?);
         }
     }
     reader.words.is_empty().then_some(replayed)
@@ -42,8 +52,7 @@ pub fn replay(file: &[u8], checker: &dyn Checker) -> Option<Replayed> {
 
 /// The call that a stored file is of.
 pub fn stored_call(file: &[u8]) -> Option<Call> {
-    let word = file.get(8..12)?;
-    match u32::from_le_bytes(word.try_into().ok()?) {
+    match call_number(file)? {
         0 => Some(Call::Navigate),
         1 => Some(Call::Validate),
         2 => Some(Call::Compile),
@@ -51,12 +60,18 @@ pub fn stored_call(file: &[u8]) -> Option<Call> {
     }
 }
 
-struct Reader<'a> {
+/// The number of the call that a stored file is of.
+pub(super) fn call_number(file: &[u8]) -> Option<u32> {
+    let word = file.get(8..12)?;
+    Some(u32::from_le_bytes(word.try_into().ok()?))
+}
+
+pub(super) struct Reader<'a> {
     words: &'a [u32],
 }
 
 impl<'a> Reader<'a> {
-    fn take(&mut self, count: usize) -> Option<&'a [u32]> {
+    pub(super) fn take(&mut self, count: usize) -> Option<&'a [u32]> {
         let (taken, rest) = self.words.split_at_checked(count)?;
         self.words = rest;
         Some(taken)

@@ -18,20 +18,23 @@ pub const HEADER_WORDS: usize = 8;
 /// A sample as the words of a file.
 pub fn words(sample: &Sample) -> Vec<u32> {
     let calls: usize = sample.groups.iter().map(|group| group.stored.len()).sum();
-    let mut out = vec![
-        MAGIC,
-        VERSION,
+    let mut out = header(
         sample.kind.number(),
-        sample.groups.len() as u32,
-        calls as u32,
-        sample.seed as u32,
-        (sample.seed >> 32) as u32,
-        0,
-    ];
+        sample.groups.len(),
+        calls,
+        sample.seed,
+    );
     for group in &sample.groups {
         write_group(&mut out, group);
     }
     out
+}
+
+/// The first words of a file.
+pub(super) fn header(call: u32, groups: usize, calls: usize, seed: u64) -> Vec<u32> {
+    let [groups, calls] = [groups, calls].map(|count| count as u32);
+    let [low, high] = [seed as u32, (seed >> 32) as u32];
+    vec![MAGIC, VERSION, call, groups, calls, low, high, 0]
 }
 
 /// Words as bytes, low end first.
@@ -48,7 +51,7 @@ fn write_group(out: &mut Vec<u32>, group: &Group) {
 }
 
 /// Nine times lent length, stored length, fill; then the stored parts.
-fn write_tables(out: &mut Vec<u32>, tables: &RawTables) {
+pub(super) fn write_tables(out: &mut Vec<u32>, tables: &RawTables) {
     let mut parts = Vec::new();
     let (kept, fill) = cut(&tables.pool);
     out.extend([tables.pool.len() as u32, kept.len() as u32, fill.into()]);
