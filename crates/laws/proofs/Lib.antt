@@ -1,1 +1,3 @@
 pub mod Navigation
+pub mod Calls
+pub mod Examples

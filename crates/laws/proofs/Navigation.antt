@@ -1,23 +1,16 @@
--- Navigation: one answer for each input, and what 01's sentences say of a small file. Assumes nothing.
+-- Navigation: what 01's sentences say of a small file. Assumes nothing.
 use mathlib.Core.Path.{_≡_, refl}
 use mathlib.Core.Bool.{Bool, true, false}
 use mathlib.Core.List.{List, [], _∷_}
 use Prim.Native.Nat.{ℕ}
 use Rattle.text.specs.Text.{textCount, textWord, textStart, textLength, fitsIn, partOf, textOf, sameBytes, sameText}
-use Rattle.layout.specs.Layout.{Tables, nodeWord, pairKey, pairValue}
-use Rattle.error.specs.declared.Answer.{Answer}
+use Rattle.layout.specs.Layout.{nodeWord, pairKey, pairValue}
 use Rattle.error.specs.Paths.{Step, keyStep, itemStep}
 use Rattle.lookup.specs.declared.Found.{Found}
 use Rattle.lookup.specs.declared.Found.the-variants.{At, Nothing}
 use Rattle.lookup.specs.Find.{lastBelow}
 use Rattle.lookup.specs.Lookup.{keyIs, entryKey, entryValue, itemNode, entryHasKey, lastEntry}
 use Rattle.navigate.specs.Walk.{andThen, entryNode, itemInto, keyInto, stepInto, navigateOver}
-use Rattle.navigate.specs.Navigate.{navigateOf}
-use Rattle.laws.specs.One.{one-answer}
-
--- what the contract of `navigate` permits at one input is one answer
-pub navigate-one-answer : (T : Tables) (node : ℕ) (path : List ℕ) (wanted : Bool) {r r′ : Answer} → r ≡ navigateOf T node path wanted → r′ ≡ navigateOf T node path wanted → r ≡ r′
-navigate-one-answer T node path wanted p q = one-answer p q
 
 module _ (pool texts nodes links : List ℕ) (n : ℕ) where
   -- the empty path finds its start

@@ -1,0 +1,3 @@
+pub mod Compile
+pub mod State
+pub mod Table
