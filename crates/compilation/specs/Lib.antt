@@ -1,3 +1,4 @@
 pub mod Compile
+pub mod Entry
 pub mod State
 pub mod Table

@@ -1,0 +1,11 @@
+pub mod Grows
+pub mod Same
+pub mod Children
+pub mod Looked
+pub mod Joined
+pub mod Merged
+pub mod Bases
+pub mod Built
+pub mod Visits
+pub mod Bridge
+pub mod Answered
