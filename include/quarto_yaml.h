@@ -1,4 +1,4 @@
-/* quarto_yaml.h: check and navigate wheel files that stand in tables.
+/* quarto_yaml.h: check and navigate wheel files that stand in tables, and compile their schemas.
  *
  * Link with libchecker.a (`rt staticlib checker`) and -lm.
  *
@@ -260,6 +260,31 @@ qy_answer qy_validate_standard(
     uint32_t node, uint32_t schema,
     uint32_t *instance, size_t instance_words,
     uint32_t *steps, size_t step_words);
+
+/* Compiles a schema: eager references are resolved, bases merged. The new
+ * records stand behind the first used_notes, used_schemas and used_links ones of
+ * their tables, which never change and are all that is checked; `note_words`,
+ * `schema_words` and `link_words` count what is lent, room too.
+ *
+ * QY_OK with the compiled schema in `record`, a record of before where nothing had
+ * to be built, and the used counts in `used_notes`, `used_schemas` and
+ * `used_links`: lend qy_validate so many records. QY_TOO_DEEP, QY_NO_BASES,
+ * QY_BASE_NOT_AN_OBJECT, QY_UNKNOWN_REFERENCE and QY_NO_ROOM keep nothing. After
+ * these answers, and after QY_OK, all words behind the used records are 0.
+ * QY_BAD_TABLE, which a used count above its limit or the whole records lent is
+ * too, and QY_OUT_OF_RANGE for `schema` write nothing. Every answer but QY_OK
+ * has the used counts as they were passed. */
+qy_answer qy_compile(
+    const uint8_t *pool, size_t pool_bytes,
+    const uint32_t *texts, size_t text_words,
+    const uint32_t *nodes, size_t node_words,
+    uint32_t *notes, size_t note_words, uint32_t used_notes,
+    uint32_t *schemas, size_t schema_words, uint32_t used_schemas,
+    const uint32_t *registry, size_t registry_words,
+    const uint32_t *patterns, size_t pattern_words,
+    uint32_t *links, size_t link_words, uint32_t used_links,
+    const uint64_t *numbers, size_t number_words,
+    uint32_t schema);
 
 /* Where a text lies in the pool. A wrong number, or a record that runs off the
  * pool, gives the empty part (0, 0). */

@@ -1,3 +1,4 @@
 pub mod Flat
 pub mod Span
 pub mod Validated
+pub mod Compiled

@@ -8,6 +8,8 @@ ghost use Rattle.navigate.specs.Navigate.{navigateOf};
 ghost use Rattle.checker.specs.Flat.{flatOf};
 ghost use Rattle.checker.specs.Span.{spanOf};
 ghost use Rattle.checker.specs.Validated.{leftOf};
+ghost use Rattle.checker.specs.Compiled.{leftTablesOf};
+ghost use Rattle.compilation.specs.Entry.{compileOf};
 ghost use Rattle.validator.specs.Validate.{validateOf};
 ghost use Rattle.error.specs.declared.Mode.the-variants as mode_of;
 ghost use lib.ListN.{length};
@@ -162,5 +164,41 @@ pub extern "C" fn qy_validate_standard(
         schema,
         instance,
         steps,
+    ))
+}
+
+// A schema compiled: its record and those that it needs stand behind the used records of tables 3, 4 and 7.
+#[no_mangle]
+pub extern "C" fn qy_compile(
+    pool: &[u8],
+    texts: &[u32],
+    nodes: &[u32],
+    notes: &mut [u32],
+    used_notes: u32,
+    schemas: &mut [u32],
+    used_schemas: u32,
+    registry: &[u32],
+    patterns: &[u32],
+    links: &mut [u32],
+    used_links: u32,
+    numbers: &[u64],
+    schema: u32,
+) -> Flat
+    ensures { λ r. ⌜ record { answer = r; notes = now (notes .exit); schemas = now (schemas .exit); links = now (links .exit) } ≡ leftTablesOf (compileOf (tables (now (pool .entry)) (now (texts .entry)) (now (nodes .entry)) (now (notes .entry)) (now (schemas .entry)) (now (registry .entry)) (now (patterns .entry)) (now (links .entry)) (now (numbers .entry))) (record { notes = «used_notes»; schemas = «used_schemas»; links = «used_links» }) schema) ⌝ }
+{
+    flat::flatten(compile::compile(
+        pool,
+        texts,
+        nodes,
+        notes,
+        used_notes,
+        schemas,
+        used_schemas,
+        registry,
+        patterns,
+        links,
+        used_links,
+        numbers,
+        schema,
     ))
 }

@@ -7,5 +7,5 @@ pub mod Merged
 pub mod Bases
 pub mod Built
 pub mod Visits
+pub mod Used
 pub mod Bridge
-pub mod Answered

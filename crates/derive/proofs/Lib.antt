@@ -1,0 +1,4 @@
+pub mod Steps
+pub mod Build
+pub mod Rows
+pub mod Derive
