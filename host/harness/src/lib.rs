@@ -8,8 +8,9 @@ pub mod judge;
 pub mod pattern;
 pub mod plant;
 pub mod record;
-pub mod remote;
 pub mod rng;
 pub mod run;
 pub mod shrink;
 pub mod tally;
+
+pub use quarto_yaml_tables::remote;

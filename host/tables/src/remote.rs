@@ -3,10 +3,8 @@
 //! Its archive is for x86-64, so `serve/serve.c` stands between; where this
 //! runs on another processor that program runs under an emulator.
 
-use crate::case::WORD_TABLES;
-use crate::record::{bytes, mode_number};
-use quarto_yaml_tables::layout::{LINKS, NOTES, SCHEMAS};
-use quarto_yaml_tables::{Answer, Call, Checker, Mode, RawTables};
+use crate::layout::{LINKS, NOTES, SCHEMAS, WORD_TABLES};
+use crate::{Answer, Call, Checker, Mode, RawTables};
 use std::cell::RefCell;
 use std::io::{self, BufReader, BufWriter, Read, Write};
 use std::path::{Path, PathBuf};
@@ -118,6 +116,10 @@ impl Drop for Running {
     }
 }
 
+fn bytes(words: &[u32]) -> Vec<u8> {
+    words.iter().flat_map(|word| word.to_le_bytes()).collect()
+}
+
 /// A request: the call's number, nine lengths, nine slices, arguments.
 fn request(call: u32, tables: &RawTables, arguments: &[&[u32]]) -> Vec<u8> {
     let mut head = vec![call, tables.pool.len() as u32];
@@ -151,7 +153,7 @@ impl Checker for Remote {
         steps: &mut [u32],
     ) -> Answer {
         let sizes = [instance.len() as u32, steps.len() as u32];
-        let head = [mode_number(mode), node, schema, sizes[0], sizes[1]];
+        let head = [mode.number(), node, schema, sizes[0], sizes[1]];
         let request = request(1, tables, &[&head, instance, steps]);
         self.ask(&request, &mut [instance, steps])
     }
