@@ -1,6 +1,6 @@
 //! A case: tables and one call over them.
 
-use quarto_yaml_tables::layout::{self, Table};
+use quarto_yaml_tables::layout;
 use quarto_yaml_tables::{Mode, RawTables};
 use std::fmt;
 
