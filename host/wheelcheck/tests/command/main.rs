@@ -1,6 +1,7 @@
 //! The command as a user has it, over the second judge and over the proved library.
 
 mod bad_input;
+mod documented;
 mod examples;
 mod messages;
 mod options;
@@ -10,6 +11,7 @@ use quarto_yaml_tables::remote::Remote;
 use std::fs;
 use std::path::{Path, PathBuf};
 use std::process::Command;
+use std::sync::OnceLock;
 use wheelcheck::station::lacking;
 
 /// What a run left.
@@ -39,7 +41,12 @@ fn library() -> Option<Remote> {
 }
 
 /// The command over the second judge and, where the library has every call, over the library.
-fn commands() -> Vec<PathBuf> {
+fn commands() -> &'static [PathBuf] {
+    static COMMANDS: OnceLock<Vec<PathBuf>> = OnceLock::new();
+    COMMANDS.get_or_init(find_commands)
+}
+
+fn find_commands() -> Vec<PathBuf> {
     let real = PathBuf::from(env!("CARGO_BIN_EXE_wheelcheck"));
     let folder = real.parent().expect("a folder");
     let mut commands = vec![folder.join("examples/second_judge")];
@@ -64,7 +71,7 @@ fn run(command: &Path, words: &[&str]) -> Ran {
 
 /// Runs each command and has them agree.
 fn run_all(words: &[&str]) -> Ran {
-    let mut runs = commands().into_iter().map(|command| run(&command, words));
+    let mut runs = commands().iter().map(|command| run(command, words));
     let first = runs.next().expect("a command");
     for other in runs {
         let found = (other.status, &other.out, &other.errors);
