@@ -14,8 +14,8 @@
 
 enum { STACK = 64 << 20, PATTERN = 0xA5, VISITS = 64 };
 
-static const uint8_t pool[] = "k";
-static const uint32_t texts[] = { 0, 1 };
+static uint8_t pool[VISITS];
+static uint32_t texts[2 * VISITS]; /* each one letter, all different */
 static uint32_t nodes[4 * QY_MOST_NODES], notes[9 * QY_MOST_NOTES], schemas[16 * QY_MOST_SCHEMAS], links[QY_MOST_LINKS];
 static uint32_t registry[2 * QY_MOST_ENTRIES], path[2 * QY_MOST_NODES];
 static const uint64_t numbers[1];
@@ -23,7 +23,7 @@ static uint32_t node_count, schema_count, link_count, entry_count, path_steps;
 static uint32_t instance[QY_INSTANCE_PATH_WORDS], steps[QY_SCHEMA_PATH_WORDS];
 static qy_answer answer;
 
-#define TABLES pool, 1, texts, 2, nodes, 4 * node_count, notes, 0, schemas, 16 * schema_count, registry, 2 * entry_count, \
+#define TABLES pool, VISITS, texts, 2 * VISITS, nodes, 4 * node_count, notes, 0, schemas, 16 * schema_count, registry, 2 * entry_count, \
     texts, 0, links, link_count, numbers, 0
 
 static uint32_t add_node(uint32_t kind, uint32_t a, uint32_t b)
@@ -100,7 +100,10 @@ static void nest(int way, bool eager)
         record[5] = 1;
         break;
     case REF:
+        registry[2 * entry_count] = entry_count;
+        registry[2 * entry_count + 1] = below;
         record = add_schema(QY_SCHEMA_REF);
+        record[2] = entry_count++;
         record[3] = eager;
         break;
     default:
@@ -151,11 +154,11 @@ static void call_standard(void)
     answer = qy_validate_standard(TABLES, node_count - 1, schema_count - 1, instance, QY_INSTANCE_PATH_WORDS, steps, QY_SCHEMA_PATH_WORDS);
 }
 static void call_navigate(void) { answer = qy_navigate(TABLES, node_count - 1, path, 2 * path_steps, true); }
-static void call_text(void) { answer.number = (uint32_t)qy_text(pool, 1, texts, 2, 0).start; }
+static void call_text(void) { answer.number = (uint32_t)qy_text(pool, VISITS, texts, 2 * VISITS, 0).start; }
 #ifdef HAVE_COMPILE
 static void call_compile(void)
 {
-    answer = qy_compile(pool, 1, texts, 2, nodes, 4 * node_count, notes, 9 * QY_MOST_NOTES, 0, schemas, 16 * QY_MOST_SCHEMAS, schema_count,
+    answer = qy_compile(pool, VISITS, texts, 2 * VISITS, nodes, 4 * node_count, notes, 9 * QY_MOST_NOTES, 0, schemas, 16 * QY_MOST_SCHEMAS, schema_count,
         registry, 2 * entry_count, texts, 0, links, QY_MOST_LINKS, link_count, numbers, 0, schema_count - 1);
 }
 #endif
@@ -185,6 +188,11 @@ static void line(const char *call, size_t base)
 int main(void)
 {
     size_t base = taken(nothing);
+    for (uint32_t i = 0; i < VISITS; i++) {
+        pool[i] = (uint8_t)(' ' + i);
+        texts[2 * i] = i;
+        texts[2 * i + 1] = 1;
+    }
     void (*validations[2])(void) = { call_source, call_standard };
     const char *const names[2] = { "qy_validate_source", "qy_validate_standard" };
     char name[80];
@@ -199,16 +207,8 @@ int main(void)
                 /* one level less than the value has: they differ at the very bottom */
                 record[2] = link_one(node_count - 2 - (descends ? VISITS - 1 : 0));
                 record[3] = 1;
-                if (way == REF) {
-                    /* a name has one target: refs take turns with allOf */
-                    registry[0] = 0;
-                    entry_count = 1;
-                    nest(REF, false);
-                    registry[1] = 0;
-                } else {
-                    for (int level = 1; level < VISITS; level++)
-                        nest(way, false);
-                }
+                for (int level = 1; level < VISITS; level++)
+                    nest(way, false);
                 snprintf(name, sizeof name, "%s over %s", way_name[way], object == 1 ? "objects" : "arrays");
                 measure(validations[mode], QY_NOT_IN_ENUM, name);
             }
@@ -237,16 +237,8 @@ int main(void)
     for (int way = 0; way < WAYS; way++) {
         clear();
         object_words(add_schema(QY_SCHEMA_OBJECT));
-        for (int level = 1; level < VISITS; level++) {
-            if (way == REF) {
-                registry[0] = 0;
-                registry[1] = schema_count - 1;
-                entry_count = 1;
-                nest(REF, true);
-                break;
-            }
-            nest(way, false);
-        }
+        for (int level = 1; level < VISITS; level++)
+            nest(way, true);
         measure(call_compile, QY_OK, way_name[way]);
     }
     line("qy_compile", base);
