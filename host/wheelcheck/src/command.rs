@@ -6,6 +6,7 @@ use crate::source::{Failure, Trouble};
 use crate::station::{Report, Station, Verdict, lacking};
 use quarto_yaml_tables::Checker;
 use std::io::{IsTerminal, Write, stderr, stdout};
+use std::panic;
 
 /// Exit status where the command could not run.
 const COULD_NOT_RUN: u8 = 2;
@@ -26,6 +27,7 @@ pub fn run(
             return COULD_NOT_RUN;
         }
     };
+    quiet_reader();
     let station = ready(checker())
         .and_then(|checker| Station::open(checker, args.mode, &args.schema, &args.bases));
     match station {
@@ -35,6 +37,17 @@ pub fn run(
             COULD_NOT_RUN
         }
     }
+}
+
+/// A panic of the YAML reader is reported as trouble with its file, not on top of it.
+fn quiet_reader() {
+    let usual = panic::take_hook();
+    panic::set_hook(Box::new(move |info| {
+        let place = info.location().map_or("", |place| place.file());
+        if !place.contains("yaml-rust") {
+            usual(info);
+        }
+    }));
 }
 
 /// The library with all its calls.

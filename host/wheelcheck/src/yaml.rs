@@ -96,11 +96,8 @@ pub fn read_one(source: &Source) -> Result<Value, Trouble> {
 /// All documents of a file.
 pub fn read_all(source: &Source) -> Result<Vec<Value>, Trouble> {
     // the reader is not ours: should it panic, that is trouble with this file alone
-    let hook = panic::take_hook();
-    panic::set_hook(Box::new(|_| {}));
-    let result = panic::catch_unwind(|| read(source));
-    panic::set_hook(hook);
-    result.unwrap_or_else(|_| Err(Trouble::of_file("Parse error: the YAML reader gave up")))
+    panic::catch_unwind(|| read(source))
+        .unwrap_or_else(|_| Err(Trouble::of_file("Parse error: the YAML reader gave up")))
 }
 
 fn read(source: &Source) -> Result<Vec<Value>, Trouble> {
@@ -386,6 +383,69 @@ mod tests {
                 })
                 .collect::<String>();
         assert!(message(&bomb).contains("more than 4096 values"));
+    }
+
+    /// Texts put together from what YAML is made of, good and bad.
+    #[test]
+    fn arbitrary_texts_end_in_a_value_or_a_message() {
+        const PARTS: &[&str] = &[
+            "a",
+            "key",
+            ": ",
+            ":",
+            "- ",
+            "-",
+            "\n",
+            "\n  ",
+            "\n    ",
+            " ",
+            "\t",
+            "[",
+            "]",
+            "{",
+            "}",
+            ",",
+            "\"",
+            "'",
+            "&a ",
+            "*a",
+            "!!int ",
+            "!t ",
+            "|",
+            ">",
+            "|+2\n",
+            "%YAML 1.2\n",
+            "---\n",
+            "...\n",
+            "#",
+            "?",
+            "? ",
+            "\\",
+            "\r",
+            "é",
+            "\u{feff}",
+            "\u{2028}",
+            "0x1",
+            "1.5",
+            "~",
+            "@",
+            "`",
+            "<<",
+        ];
+        let mut state = 1_u64;
+        let mut below = |bound: usize| {
+            state = state
+                .wrapping_mul(6_364_136_223_846_793_005)
+                .wrapping_add(1);
+            (state >> 33) as usize % bound
+        };
+        let mut read = 0;
+        for _ in 0..20_000 {
+            let text: String = (0..below(20)).map(|_| PARTS[below(PARTS.len())]).collect();
+            let found = panic::catch_unwind(|| super::read(&Source::new("test.yaml", &text)));
+            read += usize::from(matches!(found, Ok(Ok(_))));
+        }
+        assert!(read > 1_000);
     }
 
     #[test]

@@ -208,3 +208,21 @@ fn what_is_never_checked_is_warned_of() {
     assert_eq!(ran.status, 1);
     ran.says(&["warning: Invalid regex pattern '['"]);
 }
+
+#[test]
+fn there_are_128_names_and_no_more() {
+    let folder = Folder::new("names");
+    let names = |count: usize| -> String {
+        (0..count)
+            .map(|name| format!("{{$id: n{name}, any: {{}}}}\n---\n"))
+            .chain(["number".to_string()])
+            .collect()
+    };
+    assert_eq!(folder.check(&names(128), "1").status, 0);
+    let ran = folder.check(&names(129), "1");
+    assert_eq!(ran.status, 2);
+    ran.says(&[
+        "more than 256 named schemas",
+        "each name takes two of the 256 entries",
+    ]);
+}
