@@ -89,3 +89,17 @@ fn more_patterns_than_fit_are_named() {
     assert_eq!(ran.status, 2);
     ran.says(&["more than 4096 pattern answers"]);
 }
+
+#[test]
+fn a_value_of_4000_levels_is_checked_and_shown() {
+    let folder = Folder::new("deep");
+    let text = "- ".repeat(4_000) + "1";
+    assert_eq!(folder.check("array", &text).status, 0);
+    let ran = folder.check("[1]", &text);
+    assert_eq!(ran.status, 1);
+    ran.says(&["file.yaml:1:1: Value must be one of: 1, got '[[[[", "…"]);
+    let schema = "anyOf: [".repeat(100) + "number" + &"]".repeat(100);
+    let ran = folder.check(&schema, "1");
+    assert_eq!(ran.status, 2);
+    ran.says(&["Schemas nest deeper than 64 levels, or refer to themselves"]);
+}
