@@ -3,8 +3,8 @@
 use super::select::{Group, Kind, Sample, Stored};
 use crate::case::{Request, WORD_TABLES};
 use crate::run::Outcome;
-use quarto_yaml_tables::layout::{LINKS, NOTES, SCHEMAS};
 use quarto_yaml_tables::RawTables;
+use quarto_yaml_tables::layout::{LINKS, NOTES, SCHEMAS};
 
 /// The first word of a file.
 pub const MAGIC: u32 = 0x5059_5251;
