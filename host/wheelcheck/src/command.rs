@@ -51,11 +51,14 @@ fn quiet_reader() {
 }
 
 /// The library with all its calls.
-fn ready(checker: Option<Box<dyn Checker>>) -> Result<Box<dyn Checker>, Failure> {
-    let wrong = |message: String| Failure {
-        name: "wheelcheck".to_string(),
-        source: None,
-        trouble: Trouble::of_file(message).hint("'rt staticlib checker' makes the library anew"),
+fn ready(checker: Option<Box<dyn Checker>>) -> Result<Box<dyn Checker>, Box<Failure>> {
+    let wrong = |message: String| {
+        Box::new(Failure {
+            name: "wheelcheck".to_string(),
+            source: None,
+            trouble: Trouble::of_file(message)
+                .hint("'rt staticlib checker' makes the library anew"),
+        })
     };
     let checker = checker.ok_or_else(|| wrong("the proved library is missing".to_string()))?;
     match lacking(checker.as_ref()) {

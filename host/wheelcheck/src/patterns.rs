@@ -56,9 +56,9 @@ fn meetings(tables: &RawTables, node: u32, schema: u32) -> Vec<(u32, u32)> {
         let [kind, a, b, _] = tables.node(node);
         match words[0] {
             schema::STRING if kind == node::STRING && words[4] != NONE => {
-                if asked.insert((tables.text(words[4]), tables.text(a))) {
-                    found.push((words[4], a));
-                }
+                let pair = (words[4], a);
+                let new = asked.insert((tables.text(pair.0), tables.text(pair.1)));
+                found.extend(new.then_some(pair));
             }
             schema::ANY_OF | schema::ALL_OF => {
                 let parts = tables.list(words[2], words[3]);

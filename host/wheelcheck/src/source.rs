@@ -103,12 +103,12 @@ impl Source {
     }
 
     /// Trouble with this file.
-    pub fn failure(&self, trouble: Trouble) -> Failure {
-        Failure {
+    pub fn failure(&self, trouble: Trouble) -> Box<Failure> {
+        Box::new(Failure {
             name: self.name.clone(),
             source: Some(self.clone()),
             trouble,
-        }
+        })
     }
 
     /// A line's text by its number from 1.

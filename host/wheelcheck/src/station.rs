@@ -78,14 +78,16 @@ impl Station {
         mode: Mode,
         schema: &str,
         bases: &[String],
-    ) -> Result<Self, Failure> {
+    ) -> Result<Self, Box<Failure>> {
         let mut schemas = Schemas::default();
         let mut last = None;
         for name in bases.iter().map(String::as_str).chain([schema]) {
-            let source = Source::read(name).map_err(|trouble| Failure {
-                name: name.to_string(),
-                source: None,
-                trouble,
+            let source = Source::read(name).map_err(|trouble| {
+                Box::new(Failure {
+                    name: name.to_string(),
+                    source: None,
+                    trouble,
+                })
             })?;
             last = schemas.read(source)?.pop();
         }
@@ -248,7 +250,11 @@ fn invalid_patterns(tables: &RawTables, node: u32) -> String {
 }
 
 /// Compiles every named schema and the root; names then mean the compiled ones.
-fn compile(schemas: &mut Schemas, checker: &dyn Checker, root: Schema) -> Result<Schema, Failure> {
+fn compile(
+    schemas: &mut Schemas,
+    checker: &dyn Checker,
+    root: Schema,
+) -> Result<Schema, Box<Failure>> {
     let names = schemas.names.clone();
     let mut compiled = Vec::with_capacity(names.len() + 1);
     for schema in names.iter().map(|name| name.schema).chain([root]) {
@@ -284,7 +290,7 @@ fn compile(schemas: &mut Schemas, checker: &dyn Checker, root: Schema) -> Result
     Ok(compiled[compiled.len() - 1])
 }
 
-fn failure_at(schemas: &Schemas, schema: u32, message: String) -> Failure {
+fn failure_at(schemas: &Schemas, schema: u32, message: String) -> Box<Failure> {
     match schemas.place(schema) {
         Some(located) => {
             schemas.sources[located.source].failure(Trouble::at(located.place, message))

@@ -66,7 +66,7 @@ pub struct Schemas {
 
 impl Schemas {
     /// Reads all schemas of a file, one a document.
-    pub fn read(&mut self, source: Source) -> Result<Vec<Schema>, Failure> {
+    pub fn read(&mut self, source: Source) -> Result<Vec<Schema>, Box<Failure>> {
         self.sources.push(source.clone());
         let documents = yaml::read_all(&source).map_err(|trouble| source.failure(trouble))?;
         if documents.is_empty() {
@@ -237,7 +237,7 @@ impl Schemas {
     fn warn(&mut self, at: &Value, message: String) {
         let source = &self.sources[self.sources.len() - 1];
         let failure = source.failure(Trouble::at(at.place, message));
-        self.warnings.push(failure);
+        self.warnings.push(*failure);
     }
 
     /// A pattern's text; warns where it is none, for then every string is refused.
