@@ -1,6 +1,8 @@
 //! Generated cases, the comparison of every checker with the original and with
 //! the second judge, the shrinker, and the stored answers.
 
+pub use quarto_yaml_tables::remote;
+
 pub mod case;
 pub mod generate;
 pub mod guard;
@@ -12,5 +14,3 @@ pub mod rng;
 pub mod run;
 pub mod shrink;
 pub mod tally;
-
-pub use quarto_yaml_tables::remote;
