@@ -1,6 +1,6 @@
 //! A case: tables and one call over them.
 
-use quarto_yaml_tables::layout::{self, Table};
+use quarto_yaml_tables::layout;
 use quarto_yaml_tables::{Mode, RawTables};
 use std::fmt;
 
@@ -72,16 +72,7 @@ impl Request {
     }
 }
 
-/// The tables from 1 to 7, whose records are words.
-pub const WORD_TABLES: [Table; 7] = [
-    layout::TEXTS,
-    layout::NODES,
-    layout::NOTES,
-    layout::SCHEMAS,
-    layout::REGISTRY,
-    layout::PATTERNS,
-    layout::LINKS,
-];
+pub use quarto_yaml_tables::layout::WORD_TABLES;
 
 const TITLES: [&str; 7] = [
     "texts", "nodes", "notes", "schemas", "registry", "patterns", "links",

@@ -1,6 +1,8 @@
 //! Generated cases, the comparison of every checker with the original and with
 //! the second judge, the shrinker, and the stored answers.
 
+pub use quarto_yaml_tables::remote;
+
 pub mod case;
 pub mod generate;
 pub mod guard;
@@ -8,7 +10,6 @@ pub mod judge;
 pub mod pattern;
 pub mod plant;
 pub mod record;
-pub mod remote;
 pub mod rng;
 pub mod run;
 pub mod shrink;

@@ -42,6 +42,14 @@ pub fn validate(tables: &RawTables, node: u32, number: u32) -> Validated {
     validate_schema(tables, node, &schema(tables, number), &registry(tables))
 }
 
+/// The message and the code of the original's refusal, where it refuses.
+pub fn message(tables: &RawTables, node: u32, number: u32) -> Option<(String, String)> {
+    let (start, schema) = (value(tables, node), schema(tables, number));
+    let result = validator::validate(&start, &schema, &registry(tables), &SourceContext);
+    let error = result.err()?;
+    Some((error.message(), error.error_code().to_string()))
+}
+
 fn validate_schema(
     tables: &RawTables,
     node: u32,

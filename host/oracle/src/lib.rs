@@ -64,6 +64,11 @@ impl Oracle {
         judge::validate(tables, node, schema)
     }
 
+    /// The message and the code of its refusal, where the original refuses.
+    pub fn message(&self, tables: &RawTables, node: u32, schema: u32) -> Option<(String, String)> {
+        judge::message(tables, node, schema)
+    }
+
     /// What the original compiles a schema to.
     pub fn compile(&self, tables: &RawTables, schema: u32) -> Compiled {
         judge::compile(tables, schema)
@@ -108,6 +113,10 @@ impl Oracle {
     }
 
     pub fn validate(&self, _: &RawTables, _: u32, _: u32) -> Validated {
+        absent()
+    }
+
+    pub fn message(&self, _: &RawTables, _: u32, _: u32) -> Option<(String, String)> {
         absent()
     }
 

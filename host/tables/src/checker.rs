@@ -13,6 +13,17 @@ pub enum Mode {
     Standard,
 }
 
+impl Mode {
+    /// The mode's number in requests and stored answers.
+    pub fn number(self) -> u32 {
+        match self {
+            Self::Unnamed => 0,
+            Self::Source => 1,
+            Self::Standard => 2,
+        }
+    }
+}
+
 /// Answers the calls by the rules of the scope document.
 ///
 /// The tables may hold anything: what is wrong with them is an answer.

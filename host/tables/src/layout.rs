@@ -56,6 +56,9 @@ pub const ALL: [Table; 8] = [
     TEXTS, NODES, NOTES, SCHEMAS, REGISTRY, PATTERNS, LINKS, NUMBERS,
 ];
 
+/// The seven tables of 32-bit words.
+pub const WORD_TABLES: [Table; 7] = [TEXTS, NODES, NOTES, SCHEMAS, REGISTRY, PATTERNS, LINKS];
+
 /// The number that answer 20 gives for navigation's path.
 pub const PATH: u32 = 9;
 

@@ -1,8 +1,8 @@
 //! The tables that the wheel-file checker reads, its answers, and its calls.
 //!
 //! A host builds [`Tables`] from its values and schemas, then hands them to a
-//! [`Checker`]: the proved library (feature `library`, module `calls`) or any
-//! other that answers by the same rules.
+//! [`Checker`]: the proved library, in a process of its own ([`remote`]) or linked
+//! (feature `library`, module `calls`), or any other that answers by the same rules.
 //!
 //! ```
 //! use quarto_yaml_tables::{NumberRules, Tables};
@@ -25,6 +25,7 @@ pub mod layout;
 mod nodes;
 mod notes;
 mod raw;
+pub mod remote;
 mod schemas;
 mod tables;
 

@@ -1,7 +1,7 @@
 //! Tables that are well-formed by the way they are built.
 
 use crate::layout::{self, NONE, Table};
-use crate::{Node, RawTables, Schema, TableError, Text};
+use crate::{Answer, Checker, Node, RawTables, Schema, TableError, Text};
 use std::collections::HashSet;
 
 /// The eight tables, filled record by record.
@@ -93,6 +93,31 @@ impl Tables {
         };
         let words = [self.known_text(pattern)?, self.known_text(subject)?, answer];
         self.append(layout::PATTERNS, &words).map(drop)
+    }
+
+    /// Compiles a schema with all the room that the limits leave, and keeps what was appended.
+    ///
+    /// A refusal is handed back and keeps nothing; the tables are then as before.
+    pub fn compile(&mut self, checker: &dyn Checker, schema: Schema) -> Result<Schema, Answer> {
+        const WRITTEN: [Table; 3] = [layout::NOTES, layout::SCHEMAS, layout::LINKS];
+        let used = WRITTEN.map(|table| self.raw.count(table));
+        for table in WRITTEN {
+            let room = table.words * table.most;
+            self.raw.words_mut(table).resize(room, 0);
+        }
+        let answer = checker.compile(&mut self.raw, used.map(|count| count as u32), schema.0);
+        let after = [answer.used_notes, answer.used_schemas, answer.used_links];
+        for (place, table) in WRITTEN.into_iter().enumerate() {
+            let kept = match answer.number {
+                0 => after[place] as usize,
+                _ => used[place],
+            };
+            self.raw.words_mut(table).truncate(table.words * kept);
+        }
+        match answer.number {
+            0 => Ok(Schema(answer.record)),
+            _ => Err(answer),
+        }
     }
 
     /// Adds one record.

@@ -10,5 +10,4 @@ mod write;
 pub use pairs::{Pairs, holds_pairs, pair_words, pairs, replay_pairs};
 pub use read::{Replayed, replay, stored_call};
 pub use select::{Kind, Sample, sample};
-pub(crate) use write::mode_number;
 pub use write::{HEADER_WORDS, MAGIC, VERSION, bytes, words};

@@ -3,8 +3,8 @@
 use super::select::{Group, Kind, Sample, Stored};
 use crate::case::{Request, WORD_TABLES};
 use crate::run::Outcome;
+use quarto_yaml_tables::RawTables;
 use quarto_yaml_tables::layout::{LINKS, NOTES, SCHEMAS};
-use quarto_yaml_tables::{Mode, RawTables};
 
 /// The first word of a file.
 pub const MAGIC: u32 = 0x5059_5251;
@@ -109,7 +109,7 @@ fn write_call(out: &mut Vec<u32>, stored: &Stored) {
             instance_words,
             schema_words,
         } => {
-            out.extend([mode_number(*mode), *node, *schema]);
+            out.extend([mode.number(), *node, *schema]);
             out.extend([*instance_words as u32, *schema_words as u32]);
             out.extend(outcome.answer.words());
             out.extend(&outcome.instance[..2 * outcome.answer.instance_steps as usize]);
@@ -134,15 +134,6 @@ fn write_appended(out: &mut Vec<u32>, outcome: &Outcome, used: [u32; 3]) {
     for (place, table) in [NOTES, SCHEMAS, LINKS].into_iter().enumerate() {
         let [start, end] = [used[place], after[place]].map(|used| used as usize * table.words);
         out.extend(&tables.words(table)[start..end]);
-    }
-}
-
-/// A mode's number.
-pub(crate) fn mode_number(mode: Mode) -> u32 {
-    match mode {
-        Mode::Unnamed => 0,
-        Mode::Source => 1,
-        Mode::Standard => 2,
     }
 }
 

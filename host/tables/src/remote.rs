@@ -3,14 +3,16 @@
 //! Its archive is for x86-64, so `serve/serve.c` stands between; where this
 //! runs on another processor that program runs under an emulator.
 
-use crate::case::WORD_TABLES;
-use crate::record::{bytes, mode_number};
-use quarto_yaml_tables::layout::{LINKS, NOTES, SCHEMAS};
-use quarto_yaml_tables::{Answer, Call, Checker, Mode, RawTables};
+use crate::layout::{LINKS, NOTES, SCHEMAS, WORD_TABLES};
+use crate::{Answer, Call, Checker, Mode, RawTables};
 use std::cell::RefCell;
 use std::io::{self, BufReader, BufWriter, Read, Write};
 use std::path::{Path, PathBuf};
 use std::process::{Child, ChildStdin, ChildStdout, Command, Stdio};
+use std::sync::mpsc::{RecvTimeoutError, channel};
+use std::sync::{Arc, Mutex, PoisonError};
+use std::thread;
+use std::time::Duration;
 
 /// The number of an answer where the library's process ended instead of answering.
 pub const NO_ANSWER: u32 = u32::MAX;
@@ -19,6 +21,7 @@ pub const NO_ANSWER: u32 = u32::MAX;
 pub struct Remote {
     program: PathBuf,
     calls: u32,
+    limit: Option<Duration>,
     running: RefCell<Option<Running>>,
 }
 
@@ -40,8 +43,15 @@ impl Remote {
         Ok(Self {
             program: program.to_path_buf(),
             calls,
+            limit: None,
             running: RefCell::new(Some(running)),
         })
+    }
+
+    /// Ends the program where a call takes longer than this; the call then has no answer.
+    pub fn limited(mut self, limit: Duration) -> Self {
+        self.limit = Some(limit);
+        self
     }
 
     /// Sends a request and takes what comes back; starts the program again where it has ended.
@@ -54,7 +64,11 @@ impl Remote {
                 Err(_) => return Answer::of(NO_ANSWER),
             },
         };
-        match running.ask(request, writable) {
+        let result = match self.limit {
+            Some(limit) => running.ask_within(limit, request, writable),
+            None => running.ask(request, writable),
+        };
+        match result {
             Ok(answer) => {
                 *slot = Some(running);
                 answer
@@ -65,7 +79,7 @@ impl Remote {
 }
 
 struct Running {
-    child: Child,
+    child: Arc<Mutex<Child>>,
     to: BufWriter<ChildStdin>,
     from: BufReader<ChildStdout>,
 }
@@ -81,7 +95,7 @@ impl Running {
         let to = child.stdin.take().expect("a pipe");
         let from = child.stdout.take().expect("a pipe");
         let mut running = Self {
-            child,
+            child: Arc::new(Mutex::new(child)),
             to: BufWriter::new(to),
             from: BufReader::new(from),
         };
@@ -101,6 +115,27 @@ impl Running {
         Ok(Answer::from_words(&words))
     }
 
+    /// Asks while a second thread waits to end the program.
+    fn ask_within(
+        &mut self,
+        limit: Duration,
+        request: &[u8],
+        writable: &mut [&mut [u32]],
+    ) -> io::Result<Answer> {
+        let (answered, waits) = channel::<()>();
+        let child = Arc::clone(&self.child);
+        let watch = thread::spawn(move || {
+            if waits.recv_timeout(limit) == Err(RecvTimeoutError::Timeout) {
+                let mut child = child.lock().unwrap_or_else(PoisonError::into_inner);
+                let _ = child.kill();
+            }
+        });
+        let result = self.ask(request, writable);
+        drop(answered);
+        let _ = watch.join();
+        result
+    }
+
     fn read(&mut self, words: &mut [u32]) -> io::Result<()> {
         let mut bytes = vec![0; 4 * words.len()];
         self.from.read_exact(&mut bytes)?;
@@ -113,9 +148,14 @@ impl Running {
 
 impl Drop for Running {
     fn drop(&mut self) {
-        let _ = self.child.kill();
-        let _ = self.child.wait();
+        let mut child = self.child.lock().unwrap_or_else(PoisonError::into_inner);
+        let _ = child.kill();
+        let _ = child.wait();
     }
+}
+
+fn bytes(words: &[u32]) -> Vec<u8> {
+    words.iter().flat_map(|word| word.to_le_bytes()).collect()
 }
 
 /// A request: the call's number, nine lengths, nine slices, arguments.
@@ -151,7 +191,7 @@ impl Checker for Remote {
         steps: &mut [u32],
     ) -> Answer {
         let sizes = [instance.len() as u32, steps.len() as u32];
-        let head = [mode_number(mode), node, schema, sizes[0], sizes[1]];
+        let head = [mode.number(), node, schema, sizes[0], sizes[1]];
         let request = request(1, tables, &[&head, instance, steps]);
         self.ask(&request, &mut [instance, steps])
     }

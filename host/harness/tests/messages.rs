@@ -1,0 +1,52 @@
+//! The command's messages and codes against the original's own.
+
+use quarto_yaml_harness::case::Request;
+use quarto_yaml_harness::generate::{self, Stream};
+use quarto_yaml_harness::guard::with_large_stack;
+use quarto_yaml_harness::pattern::faithful;
+use quarto_yaml_model::Model;
+use quarto_yaml_oracle::{Oracle, PRESENT, fit};
+use quarto_yaml_tables::layout::{INSTANCE_WORDS, SCHEMA_WORDS};
+use quarto_yaml_tables::{Checker, Mode};
+use std::collections::BTreeMap;
+use wheelcheck::message::{code, refusal};
+
+#[test]
+fn refusals_read_as_the_originals() {
+    if !PRESENT {
+        return;
+    }
+    let seen = with_large_stack(|| {
+        let mut seen = BTreeMap::new();
+        for index in 0..20_000 {
+            let case = generate::case(Stream::Validate, 12, index);
+            let Request::Validate { node, schema, .. } = case.request else {
+                continue;
+            };
+            let tables = &case.tables;
+            let (mut instance, mut steps) = ([0; INSTANCE_WORDS], [0; SCHEMA_WORDS]);
+            let answer = Model.validate(
+                tables,
+                Mode::Source,
+                node,
+                schema,
+                &mut instance,
+                &mut steps,
+            );
+            let asked =
+                (1..=13).contains(&answer.number) && faithful(tables) && fit(tables).is_ok();
+            if !asked {
+                continue;
+            }
+            let here = Some((
+                refusal(tables, &answer),
+                code(answer.number).expect("a code").to_string(),
+            ));
+            let original = Oracle.message(tables, node, schema);
+            assert_eq!(here, original, "case {index}: {case}");
+            *seen.entry(answer.number).or_insert(0) += 1;
+        }
+        seen
+    });
+    assert_eq!(seen.len(), 13, "{seen:?}");
+}
