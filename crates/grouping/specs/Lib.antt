@@ -1,0 +1,9 @@
+pub mod Tree
+pub mod Grown
+pub mod Meant
+pub mod Record
+pub mod Same
+pub mod Values
+pub mod Regrouped
+pub mod Demand
+pub mod Source
