@@ -37,6 +37,45 @@ ghost use Rattle.layout.specs.Layout.{
 };
 use crate::words::SCHEMA_WORDS;
 
+// Where the words stand that compiling reads by their place; a list is its first place and, in the next word, its count.
+pub const KIND: u32 = 0;
+
+pub const NOTE: u32 = 1;
+
+pub const LIST: u32 = 2;
+
+pub const ITEMS: u32 = 2;
+
+pub const ARRAY_MINIMUM: u32 = 3;
+
+pub const ARRAY_MAXIMUM: u32 = 4;
+
+pub const UNIQUE: u32 = 5;
+
+pub const PROPERTIES: u32 = 2;
+
+pub const PATTERN_PROPERTIES: u32 = 4;
+
+pub const ADDITIONAL: u32 = 6;
+
+pub const REQUIRED: u32 = 7;
+
+pub const OBJECT_MINIMUM: u32 = 9;
+
+pub const OBJECT_MAXIMUM: u32 = 10;
+
+pub const CLOSED: u32 = 11;
+
+pub const NAMES: u32 = 12;
+
+pub const NAMING: u32 = 13;
+
+pub const BASES: u32 = 14;
+
+pub const REF_TEXT: u32 = 2;
+
+pub const REF_EAGER: u32 = 3;
+
 pub fn schema_word(schemas: &[u32], s: u32, k: u32) -> u32
     ensures { λ r. ⌜ r ≡ schemaWord (now (schemas .entry)) s k ⌝ }
 {

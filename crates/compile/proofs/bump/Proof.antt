@@ -1,0 +1,54 @@
+use Prim.Native.Nat.{ℕ, suc, _+_, _-_, _*_, _/_, _≤_, _<_}
+use mathlib.Core.Path.{_≡_, refl, sym, ap, _∙_}
+use native.Mathlib.Omega.{arith}
+use lib.ListN.{length, getD, take}
+use denote.Ref.{now}
+use Rattle.compile.proofs.Steps as steps
+use Rattle.compile.proofs.Weave as weave
+use Rattle.compile.proofs.Grow as grow
+use Rattle.compile.specs.Chase.{next}
+use borrow.Author.Needs.{needs}
+use Rattle.compile.proofs.bump.Statement.{statement}
+use Rattle.compile.proofs.bump.Tie as tie
+use Rattle.compile.proofs.bump.Reads as reads
+use Rattle.compile.proofs.bump.Lts as lts
+
+enum-told : tie.Need-enum-told
+enum-told c = search needs
+
+enum-told-2 : tie.Need-enum-told-2
+enum-told-2 c = search needs
+
+add-result : tie.Need-add-result
+add-result c = search needs
+
+enum-told-3 : tie.Need-enum-told-3
+enum-told-3 c = search needs
+
+add-result-2 : tie.Need-add-result-2
+add-result-2 c = search needs
+
+returns : tie.Need-returns
+unfolding next
+returns c = rw (c .enum-told .given .1)
+
+returns-2 : tie.Need-returns-2
+unfolding next
+returns-2 c = rw (c .enum-told2 .given .1)
+
+returns-3 : tie.Need-returns-3
+unfolding next
+returns-3 c = rw (c .enum-told3 .given .1)
+
+pub bump-spec : {M : Type 1} → statement M
+bump-spec =
+    tie.close
+    (tie.spec
+    enum-told
+    enum-told-2
+    add-result
+    enum-told-3
+    add-result-2
+    returns
+    returns-2
+    returns-3)

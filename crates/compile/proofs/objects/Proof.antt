@@ -1,0 +1,66 @@
+use Prim.Native.Nat.{ℕ, suc, _+_, _-_, _*_, _/_, _≤_, _<_}
+use mathlib.Core.Path.{_≡_, refl, sym, ap, _∙_}
+use native.Mathlib.Omega.{arith}
+use borrow.Author.Needs.{needs}
+use lib.ListN.{length, getD, take}
+use denote.Ref.{now}
+use Rattle.compile.proofs.Steps as steps
+use Rattle.compile.proofs.Joins as joins
+use Rattle.compile.proofs.Grow as grow
+use Rattle.compile.specs.Table.{span, allObjects, lastWord}
+use mathlib.Core.Bool.{true, false}
+use Rattle.compile.proofs.objects.Statement.{statement}
+use Rattle.compile.proofs.objects.Tie as tie
+use Rattle.compile.proofs.objects.Reads as reads
+use Rattle.compile.proofs.objects.Lts as lts
+use Rattle.merge.proofs.field.Reads as field-reads
+use Rattle.merge.proofs.word.Reads as word-reads
+
+abbrev Inv-loop : tie.InvT-loop
+Inv-loop schemas stack us sp count c j₀ j = (j ≤ count) × (allObjects (take (us * 16) schemas) (span stack sp 1 count) ≡ allObjects (take (us * 16) schemas) (span stack (sp + j) 1 (count - j)))
+
+abbrev μ-loop : tie.MeasureT-loop
+μ-loop schemas stack us sp count c j₀ j = count - j
+
+loop-holds : tie.Need-loop-holds Inv-loop μ-loop
+loop-holds c = (omega arith, ap (allObjects (take (c .before .before .args .us * 16) (now (c .before .before .args .schemas)))) (joins.span-start (now (c .before .before .args .stack)) (c .before .before .args .sp) (c .before .before .args .count)))
+
+add-word : tie.Need-add-word Inv-loop μ-loop
+add-word c = search needs
+
+word-requires : tie.Need-word-requires Inv-loop μ-loop
+word-requires c κs = search needs
+
+field-requires : tie.Need-field-requires Inv-loop μ-loop
+field-requires c κs = search needs
+
+returns : tie.Need-returns Inv-loop μ-loop
+returns c = sym (c .before .before .before .before .loop .inv .1 ∙ joins.objects-stop _ _ _ _ _ (joins.span-turn _ _ _ _ _ (c .before .before .before .loop-test .taken) (c .before .before .word .ensures)) (c .before .field .ensures) (c .if1 .taken))
+
+add-j : tie.Need-add-j Inv-loop μ-loop
+add-j c = search needs
+
+loop-less : tie.Need-loop-less Inv-loop μ-loop
+loop-less c = search needs
+
+loop-again : tie.Need-loop-again Inv-loop μ-loop
+loop-again c = (omega arith, c .before .before .before .before .loop .inv .1 ∙ joins.objects-more _ _ _ _ _ (joins.span-turn _ _ _ _ _ (c .before .before .before .loop-test .taken) (c .before .before .word .ensures)) (c .before .field .ensures) (c .if1 .left))
+
+returns-2 : tie.Need-returns-2 Inv-loop μ-loop
+returns-2 c = sym (c .before .loop .inv .1 ∙ joins.objects-end _ _ (joins.span-done _ _ _ _ (c .loop-test .left)))
+
+pub objects-spec : {M : Type 1} → statement M
+objects-spec =
+    tie.close
+    (tie.spec
+    Inv-loop
+    μ-loop
+    loop-holds
+    add-word
+    word-requires
+    field-requires
+    returns
+    add-j
+    loop-less
+    loop-again
+    returns-2)

@@ -1,0 +1,3 @@
+pub mod Merge
+pub mod Pairs
+pub mod Meets
