@@ -9,6 +9,7 @@ mod answer;
 mod equality;
 mod navigation;
 mod stored;
+mod validation;
 
 use answer::Met;
 use stored::Group;
@@ -23,6 +24,8 @@ const FORMAT: u32 = 1;
 const HEADER_WORDS: u32 = 8;
 
 const NAVIGATE: u32 = 0;
+
+const VALIDATE: u32 = 1;
 
 const EQUAL: u32 = 3;
 
@@ -91,6 +94,10 @@ fn run_call(
         NAVIGATE => counted(
             run,
             navigation::run(calls, input, run.at, group, words, pool, numbers),
+        ),
+        VALIDATE => counted(
+            run,
+            validation::run(calls, input, run.at, group, words, pool, numbers),
         ),
         EQUAL => counted(
             run,

@@ -5,7 +5,7 @@
 
 use crate::case::WORD_TABLES;
 use crate::record::{bytes, mode_number};
-use quarto_yaml_tables::layout::{LINKS, NOTES, SCHEMAS};
+use quarto_yaml_tables::layout::{self, LINKS, NOTES, SCHEMAS};
 use quarto_yaml_tables::{Answer, Call, Checker, Mode, RawTables};
 use std::cell::RefCell;
 use std::io::{self, BufReader, BufWriter, Read, Write};
@@ -133,6 +133,14 @@ fn request(call: u32, tables: &RawTables, arguments: &[&[u32]]) -> Vec<u8> {
         out.extend(bytes(part));
     }
     out
+}
+
+/// A request to validate in source mode, with path buffers of the least size.
+pub fn validate_request(tables: &RawTables, node: u32, schema: u32) -> Vec<u8> {
+    let (instance, steps) = ([0; layout::INSTANCE_WORDS], [0; layout::SCHEMA_WORDS]);
+    let sizes = [instance.len() as u32, steps.len() as u32];
+    let head = [mode_number(Mode::Source), node, schema, sizes[0], sizes[1]];
+    request(1, tables, &[&head, &instance, &steps])
 }
 
 impl Checker for Remote {
