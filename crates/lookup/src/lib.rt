@@ -59,16 +59,6 @@ pub fn key_has(pool: &[u8], texts: &[u32], nodes: &[u32], text: u32, bytes: &[u8
     false
 }
 
-// Whether a node is a string with the bytes of that text.
-pub fn key_is(pool: &[u8], texts: &[u32], nodes: &[u32], text: u32, key: u32) -> bool
-    ensures { λ r. ⌜ r ≡ keyIs (now (pool .entry)) (now (texts .entry)) (now (nodes .entry)) text key ⌝ }
-{
-    if words::node_kind(nodes, key) == 4 {
-        return text::same_text(pool, texts, words::node_a(nodes, key), text);
-    }
-    false
-}
-
 // The key node of an object's entry k.
 pub fn entry_key(nodes: &[u32], links: &[u32], n: u32, k: u32) -> u32
     ensures { λ r. ⌜ r ≡ entryKey (now (nodes .entry)) (now (links .entry)) n k ⌝ }

@@ -4,7 +4,6 @@ use quarto_yaml_tables::{
     ArrayRules, Node, NumberRules, ObjectRules, RawTables, Schema, StringRules, TableError, Tables,
     Text,
 };
-use std::collections::HashMap;
 
 /// Tables, and the node and the schema of the call.
 pub struct Workload {
@@ -18,17 +17,14 @@ pub struct Workload {
 
 type Build = fn() -> Result<Workload, TableError>;
 
-/// Each workload by its name. `shared` has every text once, the others as often as it stands.
-pub const WORKLOADS: [(&str, Build); 9] = [
-    ("wheel", || wheel(Bench::new(false), 127)),
-    ("refused", || wheel(Bench::new(false), 200)),
-    ("wheels", || wheels(Bench::new(false))),
+/// Each workload by its name. A text stands in the tables as often as in the file and the schema.
+pub const WORKLOADS: [(&str, Build); 6] = [
+    ("wheel", || wheel(127)),
+    ("refused", || wheel(200)),
+    ("wheels", wheels),
     ("any-of", any_of),
     ("unique", unique),
-    ("object", || object(Bench::new(false))),
-    ("wheel-shared", || wheel(Bench::new(true), 127)),
-    ("wheels-shared", || wheels(Bench::new(true))),
-    ("object-shared", || object(Bench::new(true))),
+    ("object", object),
 ];
 
 const WHEELS: usize = 450;
@@ -39,31 +35,15 @@ const STRINGS: usize = 1_000;
 
 const PROPERTIES: usize = 200;
 
-/// Tables, and the texts that stand once where they are shared.
+/// Tables in the making.
+#[derive(Default)]
 struct Bench {
     tables: Tables,
-    shared: bool,
-    known: HashMap<String, Text>,
 }
 
 impl Bench {
-    fn new(shared: bool) -> Self {
-        Self {
-            tables: Tables::new(),
-            shared,
-            known: HashMap::new(),
-        }
-    }
-
     fn text(&mut self, text: &str) -> Result<Text, TableError> {
-        if self.shared
-            && let Some(&known) = self.known.get(text)
-        {
-            return Ok(known);
-        }
-        let new = self.tables.text(text)?;
-        self.known.insert(text.to_string(), new);
-        Ok(new)
+        self.tables.text(text)
     }
 
     fn string(&mut self, text: &str) -> Result<Node, TableError> {
@@ -147,13 +127,15 @@ impl Bench {
     }
 }
 
-fn wheel(mut bench: Bench, step: i64) -> Result<Workload, TableError> {
+fn wheel(step: i64) -> Result<Workload, TableError> {
+    let mut bench = Bench::default();
     let schema = bench.wheel_schema()?;
     let node = bench.wheel(1, step)?;
     Ok(bench.done(node, schema))
 }
 
-fn wheels(mut bench: Bench) -> Result<Workload, TableError> {
+fn wheels() -> Result<Workload, TableError> {
+    let mut bench = Bench::default();
     let items = Some(bench.wheel_schema()?);
     let schema = bench.tables.array_schema(
         None,
@@ -171,7 +153,7 @@ fn wheels(mut bench: Bench) -> Result<Workload, TableError> {
 
 /// Strings that are too short for every alternative but the last.
 fn any_of() -> Result<Workload, TableError> {
-    let mut bench = Bench::new(false);
+    let mut bench = Bench::default();
     let parts = (0..ALTERNATIVES)
         .map(|number| {
             let minimum = Some(ALTERNATIVES - number);
@@ -190,7 +172,7 @@ fn any_of() -> Result<Workload, TableError> {
 }
 
 fn unique() -> Result<Workload, TableError> {
-    let mut bench = Bench::new(false);
+    let mut bench = Bench::default();
     let rules = ArrayRules {
         unique: Some(true),
         ..ArrayRules::default()
@@ -203,7 +185,8 @@ fn unique() -> Result<Workload, TableError> {
     Ok(bench.done(node, schema))
 }
 
-fn object(mut bench: Bench) -> Result<Workload, TableError> {
+fn object() -> Result<Workload, TableError> {
+    let mut bench = Bench::default();
     let names: Vec<String> = (0..PROPERTIES)
         .map(|number| format!("property-{number:03}"))
         .collect();

@@ -43,7 +43,7 @@ use Rattle.validator.proofs.walk.+any_later+inner+reference+validate_al
 use Rattle.validator.proofs.walk.+any_later+inner+reference+validate_all_of+validate_any_of+validate_array+validate_entry+validate_object+visit+visit_part.Proof.ValidateEntry.{validate-entry-entry-key-requires, validate-entry-node-kind-requires, validate-entry-returns, validate-entry-node-a-requires, validate-entry-choose-requires, validate-entry-enum-told, validate-entry-enum-told-2, validate-entry-refuse-requires, validate-entry-enum-known-part, validate-entry-entry-value-requires, validate-entry-visit-part-requires, validate-entry-returns-2, validate-entry-returns-3, validate-entry-same-length, validate-entry-same-length-2, validate-entry-returns-4}
 use Rattle.validator.proofs.walk.+any_later+inner+reference+validate_all_of+validate_any_of+validate_array+validate_entry+validate_object+visit+visit_part.Proof.ValidateObject.{validate-object-Inv-loop, validate-object-μ-loop, validate-object-check-object-requires, validate-object-enum-told, validate-object-judged-requires, validate-object-returns, validate-object-node-b-requires, validate-object-loop-holds, validate-object-validate-entry-requires, validate-object-enum-told-2, validate-object-same-length, validate-object-same-length-2, validate-object-returns-2, validate-object-add-k, validate-object-loop-less, validate-object-loop-again, validate-object-same-length-3, validate-object-same-length-4, validate-object-returns-3}
 use Rattle.validator.proofs.walk.+any_later+inner+reference+validate_all_of+validate_any_of+validate_array+validate_entry+validate_object+visit+visit_part.Proof.Visit.{visit-returns, visit-sub-below, visit-schema-kind-requires, visit-reference-requires, visit-same-length, visit-same-length-2, visit-returns-2, visit-add-inner, visit-inner-requires, visit-enum-told, visit-leaves-kind-requires, visit-mark-requires, visit-same-length-3, visit-same-length-4, visit-returns-3, visit-same-length-5, visit-same-length-6, visit-returns-4}
-use Rattle.validator.proofs.walk.+any_later+inner+reference+validate_all_of+validate_any_of+validate_array+validate_entry+validate_object+visit+visit_part.Proof.VisitPart.{visit-part-add-visit, visit-part-visit-requires, visit-part-enum-told, visit-part-leaves-step-requires, visit-part-mark-pair-requires, visit-part-same-length, visit-part-same-length-2, visit-part-returns, visit-part-same-length-3, visit-part-same-length-4, visit-part-returns-2}
+use Rattle.validator.proofs.walk.+any_later+inner+reference+validate_all_of+validate_any_of+validate_array+validate_entry+validate_object+visit+visit_part.Proof.VisitPart.{visit-part-accepts-requires, visit-part-returns, visit-part-add-visit, visit-part-visit-requires, visit-part-enum-told, visit-part-leaves-step-requires, visit-part-mark-pair-requires, visit-part-same-length, visit-part-same-length-2, visit-part-returns-2, visit-part-same-length-3, visit-part-same-length-4, visit-part-returns-3}
 
 pub +any-later+inner+reference+validate-all-of+validate-any-of+validate-array+validate-entry+validate-object+visit+visit-part-spec :
     {M : Type 1} → statement M
@@ -272,6 +272,8 @@ pub +any-later+inner+reference+validate-all-of+validate-any-of+validate-array+va
     λ t. visit-part-lts.spec (visit-part-calls t)
     (visit-part-at t)
     visit-part.Post
+    (visit-part-accepts-requires t)
+    (visit-part-returns t)
     (visit-part-add-visit t)
     (visit-part-visit-requires t)
     (visit-part-enum-told t)
@@ -279,7 +281,7 @@ pub +any-later+inner+reference+validate-all-of+validate-any-of+validate-array+va
     (visit-part-mark-pair-requires t)
     (visit-part-same-length t)
     (visit-part-same-length-2 t)
-    (visit-part-returns t)
+    (visit-part-returns-2 t)
     (visit-part-same-length-3 t)
     (visit-part-same-length-4 t)
-    (visit-part-returns-2 t)
+    (visit-part-returns-3 t)
