@@ -57,6 +57,7 @@ use Rattle.validator.proofs.paths.leaves_step.Reads as leaves-step-read
 use Rattle.validator.proofs.paths.mark.Reads as mark-reads
 use Rattle.validator.proofs.paths.mark_pair.Reads as mark-pair-reads
 use Rattle.validator.proofs.paths.refuse.Reads as refuse-reads
+use Rattle.validator.proofs.quick.accepts.Reads as accepts-reads
 use Rattle.validator.proofs.walk.choose.Reads as choose-reads
 use Rattle.validator.proofs.walk.link.Reads as link-reads
 
@@ -232,4 +233,4 @@ abbrev pub visit-calls : ℕ → visit-lts.Claims
 visit-calls t = (schema-kind-reads.Asked, schema-kind-reads.Learnt, reference-below t, reference.Post, inner-below t, inner.Post, leaves-kind-reads.Asked, leaves-kind-reads.Learnt, mark-reads.Asked, mark-reads.Learnt)
 
 abbrev pub visit-part-calls : ℕ → visit-part-lts.Claims
-visit-part-calls t = (visit-below t, visit.Post, leaves-step-reads.Asked, leaves-step-reads.Learnt, mark-pair-reads.Asked, mark-pair-reads.Learnt)
+visit-part-calls t = (accepts-reads.Asked, accepts-reads.Learnt, visit-below t, visit.Post, leaves-step-reads.Asked, leaves-step-reads.Learnt, mark-pair-reads.Asked, mark-pair-reads.Learnt)

@@ -14,7 +14,7 @@ pub visit-part-accepts-requires : (t : ℕ) → visit-part-lts.Need-accepts-requ
 visit-part-accepts-requires t c κs = search needs
 
 pub visit-part-returns : (t : ℕ) → visit-part-lts.Need-returns (visit-part-calls t) (visit-part-at t) visit-part.Post
-visit-part-returns t c = bufs.met-is _ _ _ _ _ _ _ _ _ _ (kinds.part-accepted _ _ _ _ _ _ _ (says-accepted (c .before .accepts .ensures) (c .if1 .taken))) (bufs.met-accepted _ _ _ _ _ _ _ _ (omega (arith, c .before .before .before .before .before .before .before .before .before .before .before .before .before .before .before .pre)) (omega (arith, c .before .before .before .before .before .before .before .before .before .before .before .before .before .before .before .pre)) refl (bufs.calm-same _ _ _) (bufs.calm-same _ _ _))
+visit-part-returns t c = bufs.met-is _ _ _ _ _ _ _ _ _ _ (kinds.part-accepted _ _ _ _ _ _ _ (says-accepted (c .before .accepts .ensures) (c .if1 .taken))) (bufs.met-accepted _ _ _ _ _ _ _ _ (omega (arith, c .before .before .before .before .before .before .before .before .before .before .before .before .before .pre)) (omega (arith, c .before .before .before .before .before .before .before .before .before .before .before .before .before .pre)) refl (bufs.calm-same _ _ _) (bufs.calm-same _ _ _))
 
 pub visit-part-add-visit : (t : ℕ) → visit-part-lts.Need-add-visit (visit-part-calls t) (visit-part-at t) visit-part.Post
 visit-part-add-visit t c = omega (arith, c .before .before .before .before .before .before .before .before .before .before .before .before .before .before .before .pre)
