@@ -25,8 +25,8 @@ ghost use Rattle.validator.specs.Met.{
   Later,
 };
 use crate::paths;
-use crate::quick;
 use crate::paths::Visited;
+use crate::quick;
 use error::Detail;
 use error::Mode;
 use error::NONE;
