@@ -130,19 +130,15 @@ fn compare_path(
     wrong
 }
 
-// The call over buffers of exactly these words, and all that it leaves.
-fn judge(
+// All that a call leaves: the answer, and both buffers to their ends.
+fn compare(
     call: u32,
     input: &[u32],
     at: usize,
-    ends: [usize; 8],
-    words: &[u32],
-    pool: &[u8],
-    numbers: &[u64],
-    instance: &mut [u32],
-    steps: &mut [u32],
+    found: Flat,
+    instance: &[u32],
+    steps: &[u32],
 ) -> Met {
-    let found = validate(input, at, ends, words, pool, numbers, instance, steps);
     let answer_at = stored::after(at, ANSWER);
     let count = stored::word(input, answer_at, STEPS);
     let kinds = stored::word(input, answer_at, KINDS);
@@ -175,6 +171,58 @@ fn judge(
     }
 }
 
+// The call over buffers of exactly these words.
+fn judge(
+    call: u32,
+    input: &[u32],
+    at: usize,
+    ends: [usize; 8],
+    words: &[u32],
+    pool: &[u8],
+    numbers: &[u64],
+    instance: &mut [u32],
+    steps: &mut [u32],
+) -> Met {
+    let found = validate(input, at, ends, words, pool, numbers, instance, steps);
+    compare(call, input, at, found, instance, steps)
+}
+
+// The call over the first words of both buffers, as many as are stored.
+fn run_within(
+    call: u32,
+    input: &[u32],
+    at: usize,
+    ends: [usize; 8],
+    words: &[u32],
+    pool: &[u8],
+    numbers: &[u64],
+    instance: &mut [u32],
+    steps: &mut [u32],
+) -> Met {
+    let start = 0;
+    let instance_end = text::wide(stored::word(input, at, INSTANCE_WORDS));
+    let steps_end = text::wide(stored::word(input, at, SCHEMA_WORDS));
+    if instance_end <= instance.len() {
+        if steps_end <= steps.len() {
+            return judge(
+                call,
+                input,
+                at,
+                ends,
+                words,
+                pool,
+                numbers,
+                &mut instance[start..instance_end],
+                &mut steps[start..steps_end],
+            );
+        }
+    }
+    Met {
+        wrong: answer::judge(call, INSTANCE_FIELDS, 0, GARBAGE, 0),
+        after: 4294967297,
+    }
+}
+
 pub fn run(
     call: u32,
     input: &[u32],
@@ -187,25 +235,15 @@ pub fn run(
     let mut instance = [GARBAGE; MOST_WORDS];
     let mut steps = [GARBAGE; MOST_WORDS];
     let ends = group.ends;
-    let instance_words = text::wide(stored::word(input, at, INSTANCE_WORDS));
-    let step_words = text::wide(stored::word(input, at, SCHEMA_WORDS));
-    if instance_words <= MOST_WORDS {
-        if step_words <= MOST_WORDS {
-            return judge(
-                call,
-                input,
-                at,
-                ends,
-                words,
-                text::part(pool, 0, group.bytes),
-                stored::first_numbers(numbers, group.numbers),
-                &mut instance[..instance_words],
-                &mut steps[..step_words],
-            );
-        }
-    }
-    Met {
-        wrong: answer::judge(call, INSTANCE_FIELDS, 0, GARBAGE, 0),
-        after: 4294967297,
-    }
+    run_within(
+        call,
+        input,
+        at,
+        ends,
+        words,
+        text::part(pool, 0, group.bytes),
+        stored::first_numbers(numbers, group.numbers),
+        &mut instance,
+        &mut steps,
+    )
 }
