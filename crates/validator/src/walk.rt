@@ -304,23 +304,6 @@ fn visit_part(
     requires { ⌜ Stepping steps kinds below tag (now ipath) (now spath) (now pool) ⌝ }
     ensures { λ r. ⌜ Met (partIn (tables (now (pool .entry)) (now (texts .entry)) (now (nodes .entry)) (now (notes .entry)) (now (schemas .entry)) (now (registry .entry)) (now (patterns .entry)) (now (links .entry)) (now (numbers .entry))) mode below node s tag word) log steps kinds (now (ipath .entry)) (now (ipath .exit)) (now (spath .entry)) (now (spath .exit)) r ⌝ }
 {
-    if quick::accepts(
-        mode,
-        pool,
-        texts,
-        nodes,
-        notes,
-        schemas,
-        registry,
-        patterns,
-        links,
-        numbers,
-        below,
-        node,
-        s,
-    ) {
-        return Visited::Accepted;
-    }
     let a = visit(
         mode,
         pool,
@@ -459,6 +442,23 @@ fn validate_entry(
         ),
         Choice::Part(part) => {
             let value = lookup::entry_value(nodes, links, node, k);
+            if quick::accepts(
+                mode,
+                pool,
+                texts,
+                nodes,
+                notes,
+                schemas,
+                registry,
+                patterns,
+                links,
+                numbers,
+                below,
+                value,
+                part,
+            ) {
+                return Visited::Accepted;
+            }
             visit_part(
                 mode,
                 pool,

@@ -224,7 +224,7 @@ abbrev pub validate-array-calls : ℕ → validate-array-lts.Claims
 validate-array-calls t = (check-array-reads.Asked, check-array-reads.Learnt, judged-reads.Asked, judged-reads.Learnt, array-items-reads.Asked, array-items-reads.Learnt, node-a-reads.Asked, node-a-reads.Learnt, node-b-reads.Asked, node-b-reads.Learnt, link-reads.Asked, link-reads.Learnt, visit-part-below t, visit-part.Post)
 
 abbrev pub validate-entry-calls : ℕ → validate-entry-lts.Claims
-validate-entry-calls t = (entry-key-reads.Asked, entry-key-reads.Learnt, node-kind-reads.Asked, node-kind-reads.Learnt, node-a-reads.Asked, node-a-reads.Learnt, choose-reads.Asked, choose-reads.Learnt, refuse-reads.Asked, refuse-reads.Learnt, entry-value-reads.Asked, entry-value-reads.Learnt, visit-part-below t, visit-part.Post)
+validate-entry-calls t = (entry-key-reads.Asked, entry-key-reads.Learnt, node-kind-reads.Asked, node-kind-reads.Learnt, node-a-reads.Asked, node-a-reads.Learnt, choose-reads.Asked, choose-reads.Learnt, refuse-reads.Asked, refuse-reads.Learnt, entry-value-reads.Asked, entry-value-reads.Learnt, accepts-reads.Asked, accepts-reads.Learnt, visit-part-below t, visit-part.Post)
 
 abbrev pub validate-object-calls : ℕ → validate-object-lts.Claims
 validate-object-calls t = (check-object-reads.Asked, check-object-reads.Learnt, judged-reads.Asked, judged-reads.Learnt, node-b-reads.Asked, node-b-reads.Learnt, validate-entry-below t, validate-entry.Post)
@@ -233,4 +233,4 @@ abbrev pub visit-calls : ℕ → visit-lts.Claims
 visit-calls t = (schema-kind-reads.Asked, schema-kind-reads.Learnt, reference-below t, reference.Post, inner-below t, inner.Post, leaves-kind-reads.Asked, leaves-kind-reads.Learnt, mark-reads.Asked, mark-reads.Learnt)
 
 abbrev pub visit-part-calls : ℕ → visit-part-lts.Claims
-visit-part-calls t = (accepts-reads.Asked, accepts-reads.Learnt, visit-below t, visit.Post, leaves-step-reads.Asked, leaves-step-reads.Learnt, mark-pair-reads.Asked, mark-pair-reads.Learnt)
+visit-part-calls t = (visit-below t, visit.Post, leaves-step-reads.Asked, leaves-step-reads.Learnt, mark-pair-reads.Asked, mark-pair-reads.Learnt)
