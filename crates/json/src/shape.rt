@@ -87,7 +87,10 @@ fn is_text(pool: &[u8], texts: &[u32], t: u32, y: Shape) -> bool
     ensures { λ r. ⌜ r ≡ onString (sameBytes (textOf (now (pool .entry)) (now (texts .entry)) t)) (leafOf (now (pool .entry)) (now (texts .entry)) y) ⌝ }
 {
     match y {
-        Shape::Text(u) => text::same_text(pool, texts, t, u),
+        Shape::Text(u) => {
+            let bytes = text::text(pool, texts, u);
+            lookup::is_text(pool, texts, t, u, bytes)
+        }
         _ => false,
     }
 }

@@ -1,5 +1,6 @@
 // An object before its entries.
 ghost use mathlib.Core.Path.{_≡_};
+ghost use Rattle.text.specs.Text.{textOf};
 ghost use Rattle.layout.specs.Layout.{
   propertiesFirst,
   propertiesCount,
@@ -28,6 +29,37 @@ use layout::words;
 use layout::words::NONE;
 use lookup::Found;
 
+// Whether one of the first k entries has that string key, whose bytes are at hand.
+fn has_earlier_with(
+    pool: &[u8],
+    texts: &[u32],
+    nodes: &[u32],
+    links: &[u32],
+    n: u32,
+    text: u32,
+    bytes: &[u8],
+    k: u32,
+) -> bool
+    requires { ⌜ now bytes ≡ textOf (now pool) (now texts) text ⌝ }
+    ensures { λ r. ⌜ r ≡ hasEarlier (now (pool .entry)) (now (texts .entry)) (now (nodes .entry)) (now (links .entry)) n text k ⌝ }
+{
+    let mut i = 0;
+    while i < k {
+        if lookup::key_has(
+            pool,
+            texts,
+            nodes,
+            text,
+            bytes,
+            lookup::entry_key(nodes, links, n, i),
+        ) {
+            return true;
+        }
+        i += 1;
+    }
+    false
+}
+
 // Whether one of the first k entries has that string key.
 fn has_earlier(
     pool: &[u8],
@@ -40,20 +72,8 @@ fn has_earlier(
 ) -> bool
     ensures { λ r. ⌜ r ≡ hasEarlier (now (pool .entry)) (now (texts .entry)) (now (nodes .entry)) (now (links .entry)) n text k ⌝ }
 {
-    let mut i = 0;
-    while i < k {
-        if lookup::key_is(
-            pool,
-            texts,
-            nodes,
-            text,
-            lookup::entry_key(nodes, links, n, i),
-        ) {
-            return true;
-        }
-        i += 1;
-    }
-    false
+    let bytes = text::text(pool, texts, text);
+    has_earlier_with(pool, texts, nodes, links, n, text, bytes, k)
 }
 
 // Whether the key of entry k is a string that an earlier key equals.

@@ -1,5 +1,6 @@
 // What is found by a text, compared by bytes: an object's entry, a property, a registry entry, a pattern's answer.
 ghost use mathlib.Core.Path.{_≡_};
+ghost use Rattle.text.specs.Text.{textOf, sameBytes, sameText};
 ghost use Rattle.lookup.specs.Lookup.{
   keyIs,
   entryKey,
@@ -20,12 +21,40 @@ pub enum Found {
     Nothing,
 }
 
-// Whether a node is a string with the bytes of that text.
-pub fn key_is(pool: &[u8], texts: &[u32], nodes: &[u32], text: u32, key: u32) -> bool
+// Whether two slices hold the same bytes, by the last byte first: names that differ mostly end differently.
+fn same_from_end(a: &[u8], b: &[u8]) -> bool
+    ensures { λ r. ⌜ r ≡ sameBytes (now (a .entry)) (now (b .entry)) ⌝ }
+{
+    let n = a.len();
+    if n != b.len() {
+        return false;
+    }
+    if 0 < n {
+        if a[n - 1] != b[n - 1] {
+            return false;
+        }
+    }
+    text::same(a, b)
+}
+
+// Whether text t has the bytes of that text, which are at hand.
+pub fn is_text(pool: &[u8], texts: &[u32], t: u32, text: u32, bytes: &[u8]) -> bool
+    requires { ⌜ now bytes ≡ textOf (now pool) (now texts) text ⌝ }
+    ensures { λ r. ⌜ r ≡ sameText (now (pool .entry)) (now (texts .entry)) t text ⌝ }
+{
+    if t == text {
+        return true;
+    }
+    same_from_end(text::text(pool, texts, t), bytes)
+}
+
+// Whether a node is a string with the bytes of that text, which are at hand.
+pub fn key_has(pool: &[u8], texts: &[u32], nodes: &[u32], text: u32, bytes: &[u8], key: u32) -> bool
+    requires { ⌜ now bytes ≡ textOf (now pool) (now texts) text ⌝ }
     ensures { λ r. ⌜ r ≡ keyIs (now (pool .entry)) (now (texts .entry)) (now (nodes .entry)) text key ⌝ }
 {
     if words::node_kind(nodes, key) == 4 {
-        return text::same_text(pool, texts, words::node_a(nodes, key), text);
+        return is_text(pool, texts, words::node_a(nodes, key), text, bytes);
     }
     false
 }
@@ -59,11 +88,43 @@ fn entry_has_key(
     links: &[u32],
     n: u32,
     text: u32,
+    bytes: &[u8],
     k: u32,
 ) -> bool
+    requires { ⌜ now bytes ≡ textOf (now pool) (now texts) text ⌝ }
     ensures { λ r. ⌜ r ≡ entryHasKey (now (pool .entry)) (now (texts .entry)) (now (nodes .entry)) (now (links .entry)) n text k ⌝ }
 {
-    key_is(pool, texts, nodes, text, entry_key(nodes, links, n, k))
+    key_has(
+        pool,
+        texts,
+        nodes,
+        text,
+        bytes,
+        entry_key(nodes, links, n, k),
+    )
+}
+
+// The last entry of an object with that string key, whose bytes are at hand.
+fn last_with(
+    pool: &[u8],
+    texts: &[u32],
+    nodes: &[u32],
+    links: &[u32],
+    n: u32,
+    text: u32,
+    bytes: &[u8],
+) -> Found
+    requires { ⌜ now bytes ≡ textOf (now pool) (now texts) text ⌝ }
+    ensures { λ r. ⌜ r ≡ lastEntry (now (pool .entry)) (now (texts .entry)) (now (nodes .entry)) (now (links .entry)) n text ⌝ }
+{
+    let mut k = words::node_b(nodes, n);
+    while 0 < k {
+        k -= 1;
+        if entry_has_key(pool, texts, nodes, links, n, text, bytes, k) {
+            return Found::At(k);
+        }
+    }
+    Found::Nothing
 }
 
 // The last entry of an object with that string key.
@@ -77,12 +138,29 @@ pub fn last_entry(
 ) -> Found
     ensures { λ r. ⌜ r ≡ lastEntry (now (pool .entry)) (now (texts .entry)) (now (nodes .entry)) (now (links .entry)) n text ⌝ }
 {
-    let mut k = words::node_b(nodes, n);
-    while 0 < k {
-        k -= 1;
-        if entry_has_key(pool, texts, nodes, links, n, text, k) {
-            return Found::At(k);
+    let bytes = text::text(pool, texts, text);
+    last_with(pool, texts, nodes, links, n, text, bytes)
+}
+
+// The schema of a property of that name, whose bytes are at hand.
+fn property_with(
+    pool: &[u8],
+    texts: &[u32],
+    links: &[u32],
+    first: u32,
+    count: u32,
+    text: u32,
+    bytes: &[u8],
+) -> Found
+    requires { ⌜ now bytes ≡ textOf (now pool) (now texts) text ⌝ }
+    ensures { λ r. ⌜ r ≡ propertyOf (now (pool .entry)) (now (texts .entry)) (now (links .entry)) first count text ⌝ }
+{
+    let mut k = 0;
+    while k < count {
+        if is_text(pool, texts, links::pair_key(links, first, k), text, bytes) {
+            return Found::At(links::pair_value(links, first, k));
         }
+        k += 1;
     }
     Found::Nothing
 }
@@ -98,14 +176,8 @@ pub fn property(
 ) -> Found
     ensures { λ r. ⌜ r ≡ propertyOf (now (pool .entry)) (now (texts .entry)) (now (links .entry)) first count text ⌝ }
 {
-    let mut k = 0;
-    while k < count {
-        if text::same_text(pool, texts, links::pair_key(links, first, k), text) {
-            return Found::At(links::pair_value(links, first, k));
-        }
-        k += 1;
-    }
-    Found::Nothing
+    let bytes = text::text(pool, texts, text);
+    property_with(pool, texts, links, first, count, text, bytes)
 }
 
 // The schema of the last registry entry of that name.

@@ -1,14 +1,16 @@
 // Runs stored calls again and compares each with its stored answer.
 //
 // The input is stored files, one behind the other; host/REPLAY.md has their format. They were written by
-// `host/record navigate 1 4000 FILE` and `host/record damaged-navigate 1 1500 FILE`: 5,503 calls. Each answer is the second
-// judge's (host/model); of 3,018 calls, marked 1, the original was asked too, and agreed. The used counts of a call that is no
-// compile have to be NONE, whatever is stored. The last file, of `host/record json 1 2000 FILE`, has 2,016 pairs of nodes:
-// whether they are equal as JSON is the original's answer, from its own conversion.
+// `host/record navigate 1 4000 FILE`, `host/record damaged-navigate 1 1500 FILE`, `host/record json 1 2000 FILE` and
+// `host/record validate 1 2000 FILE`. The 5,503 navigations and 2,016 validations have the second judge's answers (host/model); of
+// 3,018 navigations and 783 validations, marked 1, the original was asked too, and agreed. The 2,016 pairs of nodes between them have
+// the original's answer: whether the two are equal as JSON, by its own conversion. The used counts of a call that is no compile have
+// to be NONE, whatever is stored.
 mod answer;
 mod equality;
 mod navigation;
 mod stored;
+mod validation;
 
 use answer::Met;
 use stored::Group;
@@ -23,6 +25,8 @@ const FORMAT: u32 = 1;
 const HEADER_WORDS: u32 = 8;
 
 const NAVIGATE: u32 = 0;
+
+const VALIDATE: u32 = 1;
 
 const EQUAL: u32 = 3;
 
@@ -91,6 +95,10 @@ fn run_call(
         NAVIGATE => counted(
             run,
             navigation::run(calls, input, run.at, group, words, pool, numbers),
+        ),
+        VALIDATE => counted(
+            run,
+            validation::run(calls, input, run.at, group, words, pool, numbers),
         ),
         EQUAL => counted(
             run,

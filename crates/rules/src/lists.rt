@@ -3,6 +3,8 @@ ghost use mathlib.Core.Path.{_≡_};
 ghost use Prim.Native.Nat.{_+_, _*_, _≤_};
 ghost use lib.ListN.{length};
 ghost use Rattle.text.specs.Choice.{both, either};
+ghost use Rattle.text.specs.Text.{textOf};
+ghost use Rattle.layout.specs.Layout.{pairKey};
 ghost use Rattle.rules.specs.Lists.{
   optionalBelow,
   listBelow,
@@ -85,19 +87,35 @@ fn pairs_below(links: &[u32], first: u32, count: u32, texts: usize, limit: usize
     true
 }
 
-// Whether the key of pair j differs in bytes from those before it.
-fn key_is_new(pool: &[u8], texts: &[u32], links: &[u32], first: u32, j: u32) -> bool
+// Whether the key of pair j, whose bytes are at hand, differs in bytes from those before it.
+fn key_is_new_with(
+    pool: &[u8],
+    texts: &[u32],
+    links: &[u32],
+    first: u32,
+    j: u32,
+    bytes: &[u8],
+) -> bool
+    requires { ⌜ now bytes ≡ textOf (now pool) (now texts) (pairKey (now links) first j) ⌝ }
     ensures { λ r. ⌜ r ≡ keyIsNew (now (pool .entry)) (now (texts .entry)) (now (links .entry)) first j ⌝ }
 {
     let key = pair_key(links, first, j);
     let mut i = 0;
     while i < j {
-        if text::same_text(pool, texts, pair_key(links, first, i), key) {
+        if lookup::is_text(pool, texts, pair_key(links, first, i), key, bytes) {
             return false;
         }
         i += 1;
     }
     true
+}
+
+// Whether the key of pair j differs in bytes from those before it.
+fn key_is_new(pool: &[u8], texts: &[u32], links: &[u32], first: u32, j: u32) -> bool
+    ensures { λ r. ⌜ r ≡ keyIsNew (now (pool .entry)) (now (texts .entry)) (now (links .entry)) first j ⌝ }
+{
+    let bytes = text::text(pool, texts, pair_key(links, first, j));
+    key_is_new_with(pool, texts, links, first, j, bytes)
 }
 
 fn keys_distinct(pool: &[u8], texts: &[u32], links: &[u32], first: u32, count: u32) -> bool

@@ -3,3 +3,4 @@ pub mod Leaves
 pub mod Loops
 pub mod ByKind
 pub mod Ends
+pub mod Early

@@ -156,6 +156,10 @@ module _ (T : Tables) (mode : Mode) where
     unfoldable pub innerIn : Outcome
     innerIn = within (look (wordsOf T) s)
 
+-- true where the outcome is known to be accepted; false says nothing
+unfoldable pub Accepts : Bool → Outcome → Type 0
+Accepts r o = r ≡ true → o ≡ accepted
+
 -- ---- buffers
 -- the words of p stand in xs from `at` on
 unfoldable pub Holds : List ℕ → ℕ → List ℕ → Type 0

@@ -1,5 +1,6 @@
 // Validation: a value against a schema.
 mod paths;
+mod quick;
 mod walk;
 
 ghost use mathlib.Core.Path.{_≡_};

@@ -26,6 +26,7 @@ ghost use Rattle.validator.specs.Met.{
 };
 use crate::paths;
 use crate::paths::Visited;
+use crate::quick;
 use error::Detail;
 use error::Mode;
 use error::NONE;
@@ -441,6 +442,23 @@ fn validate_entry(
         ),
         Choice::Part(part) => {
             let value = lookup::entry_value(nodes, links, node, k);
+            if quick::accepts(
+                mode,
+                pool,
+                texts,
+                nodes,
+                notes,
+                schemas,
+                registry,
+                patterns,
+                links,
+                numbers,
+                below,
+                value,
+                part,
+            ) {
+                return Visited::Accepted;
+            }
             visit_part(
                 mode,
                 pool,

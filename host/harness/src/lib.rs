@@ -14,3 +14,4 @@ pub mod rng;
 pub mod run;
 pub mod shrink;
 pub mod tally;
+pub mod workloads;

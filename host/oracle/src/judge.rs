@@ -8,6 +8,7 @@ use crate::said::{Compiled, Detail, Said, Validated};
 use crate::schemas::{registry, schema};
 use crate::values::{text, value};
 use quarto_source_map::SourceContext;
+use quarto_yaml::YamlWithSourceInfo;
 use quarto_yaml_tables::layout::NONE;
 use quarto_yaml_tables::{Answer, Detail as Given, RawTables};
 use quarto_yaml_validation::error::{SchemaResult, ValidationResult};
@@ -15,6 +16,7 @@ use quarto_yaml_validation::validator::{self, advertised_types, json_of};
 use quarto_yaml_validation::{
     InstancePath, Schema, SchemaError, SchemaRegistry, ValidationError, ValidationErrorKind,
 };
+use std::hint::black_box;
 use std::panic::{AssertUnwindSafe, catch_unwind, resume_unwind};
 
 /// The node that a path leads to.
@@ -35,6 +37,45 @@ pub fn navigate(tables: &RawTables, node: u32, path: &[u32], key_wanted: bool) -
 pub fn equal(tables: &RawTables, left: u32, right: u32) -> [bool; 2] {
     let [left, right] = [left, right].map(|node| json_of(&value(tables, node).yaml));
     [left == right, format!("{left:?}") == format!("{right:?}")]
+}
+
+/// A validation whose value, schema and registry stand ready.
+pub struct Prepared {
+    value: YamlWithSourceInfo,
+    schema: Schema,
+    registry: SchemaRegistry,
+}
+
+impl Prepared {
+    /// The original's values of a node and a schema.
+    pub fn new(tables: &RawTables, node: u32, number: u32) -> Self {
+        Self {
+            value: value(tables, node),
+            schema: schema(tables, number),
+            registry: registry(tables),
+        }
+    }
+
+    /// The answer's number, 0 where the value is accepted.
+    pub fn number(&self) -> u32 {
+        let result = original_validate(self);
+        original_done();
+        result.map_or_else(|error| kind_said(error.kind).0, |()| 0)
+    }
+}
+
+/// The original's call alone, under a name by which its instructions can be counted.
+#[unsafe(no_mangle)]
+#[inline(never)]
+fn original_validate(ready: &Prepared) -> ValidationResult<()> {
+    validator::validate(&ready.value, &ready.schema, &ready.registry, &SourceContext)
+}
+
+/// Where the count ends.
+#[unsafe(no_mangle)]
+#[inline(never)]
+fn original_done() {
+    black_box(());
 }
 
 /// What the original says of a node under a schema.

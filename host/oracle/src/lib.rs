@@ -23,6 +23,8 @@ mod values;
 mod reach;
 mod said;
 
+#[cfg(oracle_present)]
+pub use judge::Prepared;
 pub use reach::{Unfit, fit};
 pub use said::{Compiled, Detail, Said, Validated};
 
@@ -133,6 +135,22 @@ impl Oracle {
     }
 
     pub fn tree(&self, _: &RawTables, _: u32) -> String {
+        absent()
+    }
+}
+
+/// A validation whose value, schema and registry stand ready.
+#[cfg(not(oracle_present))]
+pub struct Prepared;
+
+#[cfg(not(oracle_present))]
+#[allow(missing_docs)]
+impl Prepared {
+    pub fn new(_: &RawTables, _: u32, _: u32) -> Self {
+        Self
+    }
+
+    pub fn number(&self) -> u32 {
         absent()
     }
 }

@@ -3,7 +3,7 @@
 //! Its archive is for x86-64, so `serve/serve.c` stands between; where this
 //! runs on another processor that program runs under an emulator.
 
-use crate::layout::{LINKS, NOTES, SCHEMAS, WORD_TABLES};
+use crate::layout::{self, LINKS, NOTES, SCHEMAS, WORD_TABLES};
 use crate::{Answer, Call, Checker, Mode, RawTables};
 use std::cell::RefCell;
 use std::io::{self, BufReader, BufWriter, Read, Write};
@@ -173,6 +173,14 @@ fn request(call: u32, tables: &RawTables, arguments: &[&[u32]]) -> Vec<u8> {
         out.extend(bytes(part));
     }
     out
+}
+
+/// A request to validate in source mode, with path buffers of the least size.
+pub fn validate_request(tables: &RawTables, node: u32, schema: u32) -> Vec<u8> {
+    let (instance, steps) = ([0; layout::INSTANCE_WORDS], [0; layout::SCHEMA_WORDS]);
+    let sizes = [instance.len() as u32, steps.len() as u32];
+    let head = [Mode::Source.number(), node, schema, sizes[0], sizes[1]];
+    request(1, tables, &[&head, &instance, &steps])
 }
 
 impl Checker for Remote {

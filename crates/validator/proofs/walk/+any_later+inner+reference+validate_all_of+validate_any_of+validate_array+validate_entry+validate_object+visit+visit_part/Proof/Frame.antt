@@ -57,6 +57,7 @@ use Rattle.validator.proofs.paths.leaves_step.Reads as leaves-step-read
 use Rattle.validator.proofs.paths.mark.Reads as mark-reads
 use Rattle.validator.proofs.paths.mark_pair.Reads as mark-pair-reads
 use Rattle.validator.proofs.paths.refuse.Reads as refuse-reads
+use Rattle.validator.proofs.quick.accepts.Reads as accepts-reads
 use Rattle.validator.proofs.walk.choose.Reads as choose-reads
 use Rattle.validator.proofs.walk.link.Reads as link-reads
 
@@ -223,7 +224,7 @@ abbrev pub validate-array-calls : ℕ → validate-array-lts.Claims
 validate-array-calls t = (check-array-reads.Asked, check-array-reads.Learnt, judged-reads.Asked, judged-reads.Learnt, array-items-reads.Asked, array-items-reads.Learnt, node-a-reads.Asked, node-a-reads.Learnt, node-b-reads.Asked, node-b-reads.Learnt, link-reads.Asked, link-reads.Learnt, visit-part-below t, visit-part.Post)
 
 abbrev pub validate-entry-calls : ℕ → validate-entry-lts.Claims
-validate-entry-calls t = (entry-key-reads.Asked, entry-key-reads.Learnt, node-kind-reads.Asked, node-kind-reads.Learnt, node-a-reads.Asked, node-a-reads.Learnt, choose-reads.Asked, choose-reads.Learnt, refuse-reads.Asked, refuse-reads.Learnt, entry-value-reads.Asked, entry-value-reads.Learnt, visit-part-below t, visit-part.Post)
+validate-entry-calls t = (entry-key-reads.Asked, entry-key-reads.Learnt, node-kind-reads.Asked, node-kind-reads.Learnt, node-a-reads.Asked, node-a-reads.Learnt, choose-reads.Asked, choose-reads.Learnt, refuse-reads.Asked, refuse-reads.Learnt, entry-value-reads.Asked, entry-value-reads.Learnt, accepts-reads.Asked, accepts-reads.Learnt, visit-part-below t, visit-part.Post)
 
 abbrev pub validate-object-calls : ℕ → validate-object-lts.Claims
 validate-object-calls t = (check-object-reads.Asked, check-object-reads.Learnt, judged-reads.Asked, judged-reads.Learnt, node-b-reads.Asked, node-b-reads.Learnt, validate-entry-below t, validate-entry.Post)
