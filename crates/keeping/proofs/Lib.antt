@@ -1,3 +1,4 @@
 pub mod Numbers
 pub mod Called
 pub mod Compiles
+pub mod Rules
