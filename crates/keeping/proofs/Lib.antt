@@ -2,3 +2,4 @@ pub mod Numbers
 pub mod Called
 pub mod Compiles
 pub mod Rules
+pub mod Growth
