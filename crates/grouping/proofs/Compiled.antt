@@ -72,11 +72,11 @@ names-less : {s n : ℕ} → s ≤ n → (a : ℕ) (b : Bool) → NamesIn (λ x.
 names-less le a true q = absent
 names-less le a false (inNamed (one p ps)) = present {x = a} (omega arith)
 
-every-perhaps : {s n : ℕ} → s ≤ n → {x : Option (List ℕ)} → PerhapsEvery (λ x. x < s) x → PerhapsEvery (λ x. x < n) x
+pub every-perhaps : {s n : ℕ} → s ≤ n → {x : Option (List ℕ)} → PerhapsEvery (λ x. x < s) x → PerhapsEvery (λ x. x < n) x
 every-perhaps le absents = absents
 every-perhaps le (presents q) = presents (every-less le q)
 
-every-names : {s n : ℕ} → s ≤ n → {x : Names ℕ} → NamesIn (λ x. x < s) x → NamesIn (λ x. x < n) x
+pub every-names : {s n : ℕ} → s ≤ n → {x : Names ℕ} → NamesIn (λ x. x < s) x → NamesIn (λ x. x < n) x
 every-names le inNone = inNone
 every-names le (inDetects {x = x} p) = inDetects {x = x} (omega arith)
 every-names le (inNamed q) = inNamed (every-less le q)

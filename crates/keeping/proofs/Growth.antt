@@ -99,7 +99,7 @@ module _ (T : Tables) where
   }
 
   -- a word of an old record
-  word-kept : {t u : Words} → Good t → Longer t u → (s k : ℕ) → s < count t → k < 16 → schemaWord (u .schemas) s k ≡ schemaWord (t .schemas) s k
+  pub word-kept : {t u : Words} → Good t → Longer t u → (s k : ℕ) → s < count t → k < 16 → schemaWord (u .schemas) s k ≡ schemaWord (t .schemas) s k
   unfolding schemaWord
   word-kept g e s k l m = e .schemas .same (s * 16 + k) (omega (arith, steady g .rows))
 
@@ -141,25 +141,27 @@ module _ (T : Tables) where
 
     pub grow : ((i : ℕ) → noteCount (t .notes) ≤ i → i < noteCount (u .notes) → noteOk (u .notes) i ≡ true) →
         ((i : ℕ) → count t ≤ i → i < count u → schemaOk (countsOf (grown T u)) (T .pool) (T .texts) (u .links) (u .schemas) i ≡ true) → Good u
-    grow notes schemas = record { sound = passes (grown T u) lent-kept (record {
-      sized = record {
-        pool = formed g .sized .pool;
-        texts = formed g .sized .texts;
-        nodes = formed g .sized .nodes;
-        notes = unfold noteCount in f .notes;
-        schemas = unfold schemaCount in f .schemas;
-        registry = formed g .sized .registry;
-        patterns = formed g .sized .patterns;
-        links = f .links;
-        numbers = formed g .sized .numbers;
-      };
-      texts = formed g .texts;
-      nodes = λ i l. node-still i (formed g .nodes i l);
-      notes = λ i l. ⊎-elim (λ m. notes i m l) (λ m. note-still i m (formed g .notes i m)) (le-or-lt (noteCount (t .notes)) i);
-      schemas = λ i l. ⊎-elim (λ m. schemas i m l) (λ m. schema-still i m (formed g .schemas i m)) (le-or-lt (count t) i);
-      registry = entry-still;
-      patterns = λ i l. unfold patternOk countsIn in formed g .patterns i l;
-    }) }
+    grow notes schemas = record {
+      sound = passes (grown T u) lent-kept (record {
+        sized = record {
+          pool = formed g .sized .pool;
+          texts = formed g .sized .texts;
+          nodes = formed g .sized .nodes;
+          notes = unfold noteCount in f .notes;
+          schemas = unfold schemaCount in f .schemas;
+          registry = formed g .sized .registry;
+          patterns = formed g .sized .patterns;
+          links = f .links;
+          numbers = formed g .sized .numbers;
+        };
+        texts = formed g .texts;
+        nodes = λ i l. node-still i (formed g .nodes i l);
+        notes = λ i l. ⊎-elim (λ m. notes i m l) (λ m. note-still i m (formed g .notes i m)) (le-or-lt (noteCount (t .notes)) i);
+        schemas = λ i l. ⊎-elim (λ m. schemas i m l) (λ m. schema-still i m (formed g .schemas i m)) (le-or-lt (count t) i);
+        registry = entry-still;
+        patterns = λ i l. unfold patternOk countsIn in formed g .patterns i l;
+      });
+    }
 
   -- the three appends
   pub longer-links : (t : Words) (x : List ℕ) → Longer t (withLinks t x)

@@ -5,3 +5,5 @@ pub mod Rules
 pub mod Growth
 pub mod Lots
 pub mod Adds
+pub mod Fine
+pub mod Keeps
