@@ -1,7 +1,7 @@
 -- Demand 3 said of the calls of `compile`: of two schemas that differ in a grouped run of bases, two calls that both answer 0 leave the same
 -- schema. Assumes nothing.
 use Prim.Native.Nat.{ℕ}
-use mathlib.Core.Path.{_≡_, sym, subst}
+use mathlib.Core.Path.{sym, subst}
 use mathlib.Core.List.{List}
 use Rattle.error.specs.declared.Used.{Used}
 use Rattle.layout.specs.Layout.{Tables}
@@ -12,7 +12,7 @@ use Rattle.grouping.specs.Values.{SameValues, withSchemas, grown}
 use Rattle.grouping.specs.Regrouped.{Grouped, Regrouped}
 use Rattle.grouping.specs.Demand.{SameSchema}
 use Rattle.grouping.proofs.Grouping.{bases-may-be-grouped, bases-may-be-grouped-anywhere}
-use Rattle.keeping.specs.Left.{leftBy}
+use Rattle.keeping.specs.Left.{Compiles, leftBy}
 use Rattle.keeping.proofs.Called.{Done, done, sound-tables, within, left-is, place-is, compiling-is, limited}
 
 -- what holds of the words and the record that two compiles make, holds of what the calls leave
@@ -27,7 +27,7 @@ said T T′ u u′ s s′ a b z =
 
 -- d′ is d with the empty object e over a run of its bases: both calls, on the same tables, answer 0
 pub compiles-may-be-grouped : (T : Tables) (u : Used) (d d′ e : ℕ) → Grouped (wordsOf (usedTables T u)) d d′ e →
-    compileOf T u d .answer .number ≡ 0 → compileOf T u d′ .answer .number ≡ 0 →
+    Compiles T u d → Compiles T u d′ →
     SameSchema (leftBy T (compileOf T u d)) (compileOf T u d .answer .place) (leftBy T (compileOf T u d′)) (compileOf T u d′ .answer .place)
 compiles-may-be-grouped T u d d′ e g h h′ =
     let a = done T u d h in
@@ -39,7 +39,7 @@ compiles-may-be-grouped T u d d′ e g h h′ =
 pub compiles-may-be-grouped-anywhere : (T : Tables) (t : Words) (registry : List ℕ) (u u′ : Used) →
     (let A : Tables = usedTables T u in let B : Tables = usedTables (withSchemas T t registry) u′ in
     SameValues (T .nodes) (A .links) (B .links) → (Q : ℕ → ℕ → Type 0) → Regrouped (wordsOf A) (wordsOf B) Q (findIn A) (findIn B) → (s s′ : ℕ) → Q s s′ →
-    compileOf T u s .answer .number ≡ 0 → compileOf (withSchemas T t registry) u′ s′ .answer .number ≡ 0 →
+    Compiles T u s → Compiles (withSchemas T t registry) u′ s′ →
     SameSchema (leftBy T (compileOf T u s)) (compileOf T u s .answer .place) (leftBy (withSchemas T t registry) (compileOf (withSchemas T t registry) u′ s′)) (compileOf (withSchemas T t registry) u′ s′ .answer .place))
 unfolding usedTables
 compiles-may-be-grouped-anywhere T t registry u u′ v Q k s s′ q h h′ =

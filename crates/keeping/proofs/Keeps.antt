@@ -29,7 +29,7 @@ use Rattle.grouping.specs.Demand.{compiling}
 use Rattle.grouping.proofs.Natural.{append-in, join-in}
 use Rattle.grouping.proofs.Compiled.{then-elim, ok-same, every-less, pairs-less}
 use Rattle.grouping.proofs.WellFormed.{list-every, names-known}
-use Rattle.keeping.specs.Left.{leftBy}
+use Rattle.keeping.specs.Left.{Compiles, leftBy}
 use Rattle.keeping.proofs.Rules.{optional-more}
 use Rattle.keeping.proofs.Growth.{Longer, longer-itself, longer-more, longer-count, Good, formed, steady, word-kept}
 use Rattle.keeping.proofs.Lots.{Lot, lot-more, lot-put, Rekeyed, noneLeft, oneMore, lot-again}
@@ -203,7 +203,7 @@ pub record Passes (T : Tables) (s : ℕ) : Type 0 where
   pub sound : tablesFault T ≡ Sound
   pub there : s < schemaCount (T .schemas)
 
-pub compile-keeps-the-check : (T : Tables) (u : Used) (s : ℕ) → compileOf T u s .answer .number ≡ 0 → Passes (leftBy T (compileOf T u s)) (compileOf T u s .answer .place)
+pub compile-keeps-the-check : (T : Tables) (u : Used) (s : ℕ) → Compiles T u s → Passes (leftBy T (compileOf T u s)) (compileOf T u s .answer .place)
 unfolding compiling
 compile-keeps-the-check T u s h =
     let d = done T u s h in
