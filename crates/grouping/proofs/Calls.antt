@@ -1,11 +1,12 @@
 -- Demand 3 said of the calls of `validate`: two calls that come to an answer for the value give the same one. Assumes nothing.
-use Prim.Native.Nat.{ℕ}
-use mathlib.Core.Path.{_≡_, refl, sym, ap, subst}
+use Prim.Native.Nat.{ℕ, _≤_, _<_}
+use mathlib.Core.Path.{_≡_, refl, sym, ap, subst, _∙_}
 use mathlib.Core.Bool.{Bool, true, false}
 use mathlib.Core.List.{List, []}
 use native.Mathlib.Omega.{arith}
 use lib.ListN.{length}
 use lib.Dec.{ltb}
+use borrow.Author.Tests.{lt-ltb, le-ltb}
 use Rattle.text.specs.Choice.{either, pick}
 use Rattle.error.specs.declared.Mode.{Mode}
 use Rattle.error.specs.Answers.{answerOf, plainAnswer, badTable, refusalOf}
@@ -44,11 +45,17 @@ module _ (T : Tables) (mode : Mode) (node s i k : ℕ) where
       (past-places (ltb node (nodeCount (T .nodes))) _
       (past-places (ltb s (schemaCount (T .schemas))) _ (past-buffers (either (ltb i instanceWords) (ltb k schemaStepWords)))))
 
-  not-deep : Comes visited → visitOf T mode levels node s ≡ ended 23 → ⊥
-  not-deep c e = c .depth (at (visitOf T mode levels node s) e)
+  not-deep : (visited .answer .number ≡ 23 → ⊥) → visitOf T mode levels node s ≡ ended 23 → ⊥
+  not-deep c e = c (at (visitOf T mode levels node s) e)
     where
       at : (o : Outcome) → o ≡ ended 23 → (answered o i k) .answer .number ≡ 23
       at o e = subst (λ (x : Outcome). (answered x i k) .answer .number ≡ 23) (sym e) (unfold answerOf in refl)
+
+  -- good tables, places and buffers: the call is the visit
+  pub good-call-visits : tablesFault T ≡ Sound → node < nodeCount (T .nodes) → s < schemaCount (T .schemas) → instanceWords ≤ i → schemaStepWords ≤ k → validateOf T mode node s i k ≡ visited
+  unfolding validateOf
+  good-call-visits e n l a b =
+      rw (e, lt-ltb node (nodeCount (T .nodes)) n, lt-ltb s (schemaCount (T .schemas)) l, le-ltb i instanceWords a, le-ltb k schemaStepWords b)
 
 refusalOr : {N : Type 0} → Refusal N → Answered N → Refusal N
 refusalOr d accepts = d
@@ -107,13 +114,29 @@ module _ (T T′ : Tables) (i k : ℕ) where
   same-outcomes (ended n) (invalid p) h = absurd (let q : _≡_ {A = ℕ} 0 1 = cc in omega arith)
   same-outcomes (ended n) (ended n′) h = same-plain n n′ (ap endOr h)
 
+-- of schemas that are the same, two calls that are visits, neither of which meets the depth limit, answer alike
+pub visits-alike : (T T′ : Tables) (r r′ : ℕ) → SameSchema T r T′ r′ → (mode : Mode) (node i k : ℕ) →
+    validateOf T mode node r i k ≡ visited T mode node r i k → validateOf T′ mode node r′ i k ≡ visited T′ mode node r′ i k →
+    (validateOf T mode node r i k .answer .number ≡ 23 → ⊥) → (validateOf T′ mode node r′ i k .answer .number ≡ 23 → ⊥) →
+    SameCall T T′ (validateOf T mode node r i k) (validateOf T′ mode node r′ i k)
+visits-alike T T′ r r′ z mode node i k e e′ c c′ =
+    subst (λ (x : Validated). SameCall T T′ x (validateOf T′ mode node r′ i k)) (sym e)
+    (subst (λ (x : Validated). SameCall T T′ (visited T mode node r i k) x) (sym e′)
+    (same-outcomes T T′ i k (visitOf T mode levels node r) (visitOf T′ mode levels node r′)
+    (z .answers mode node
+    (not-deep T mode node r i k (λ q. c (ap (λ (x : Validated). x .answer .number) e ∙ q)))
+    (not-deep T′ mode node r′ i k (λ q. c′ (ap (λ (x : Validated). x .answer .number) e′ ∙ q))))))
+
 -- of schemas that are the same, two calls that come to an answer for the value give the same one
 pub calls-alike : (T T′ : Tables) (r r′ : ℕ) → SameSchema T r T′ r′ → (mode : Mode) (node i k : ℕ) → Comes (validateOf T mode node r i k) → Comes (validateOf T′ mode node r′ i k) →
     SameCall T T′ (validateOf T mode node r i k) (validateOf T′ mode node r′ i k)
 calls-alike T T′ r r′ z mode node i k c c′ =
-    let e = call-visits T mode node r i k c in
-    let e′ = call-visits T′ mode node r′ i k c′ in
-    subst (λ (x : Validated). SameCall T T′ x (validateOf T′ mode node r′ i k)) (sym e)
-    (subst (λ (x : Validated). SameCall T T′ (answered (visitOf T mode levels node r) i k) x) (sym e′)
-    (same-outcomes T T′ i k (visitOf T mode levels node r) (visitOf T′ mode levels node r′)
-    (z .answers mode node (not-deep T mode node r i k (subst Comes e c)) (not-deep T′ mode node r′ i k (subst Comes e′ c′)))))
+    visits-alike T T′ r r′ z mode node i k (call-visits T mode node r i k c) (call-visits T′ mode node r′ i k c′) (c .depth) (c′ .depth)
+
+-- tables that pass the check, a node and records that are there, buffers that are long enough: only the depth limit is left to ask for
+pub good-calls-alike : (T T′ : Tables) (r r′ : ℕ) → SameSchema T r T′ r′ → tablesFault T ≡ Sound → tablesFault T′ ≡ Sound → r < schemaCount (T .schemas) → r′ < schemaCount (T′ .schemas) →
+    (mode : Mode) (node i k : ℕ) → node < nodeCount (T .nodes) → node < nodeCount (T′ .nodes) → instanceWords ≤ i → schemaStepWords ≤ k →
+    (validateOf T mode node r i k .answer .number ≡ 23 → ⊥) → (validateOf T′ mode node r′ i k .answer .number ≡ 23 → ⊥) →
+    SameCall T T′ (validateOf T mode node r i k) (validateOf T′ mode node r′ i k)
+good-calls-alike T T′ r r′ z sound sound′ l l′ mode node i k n n′ a b =
+    visits-alike T T′ r r′ z mode node i k (good-call-visits T mode node r i k sound n l a b) (good-call-visits T′ mode node r′ i k sound′ n′ l′ a b)

@@ -27,11 +27,11 @@ use Rattle.grouping.proofs.Natural.{nat-merge, Tidy, AllTidy, noneTidy,
 use Rattle.grouping.proofs.Rows.{Reads, rPlain, rAny, rAll, rArray, rObject, rRef, reads, note-steady, required-steady, Plain, tidy}
 
 -- what went well went on
-then-elim : {A B : Type 0} {C : Type 0} (r : Result A) (f : A → Words → Result B) (b : B) (t′ : Words) → ((a : A) (u : Words) → r ≡ ok a u → f a u ≡ ok b t′ → C) → then r f ≡ ok b t′ → C
+pub then-elim : {A B : Type 0} {C : Type 0} (r : Result A) (f : A → Words → Result B) (b : B) (t′ : Words) → ((a : A) (u : Words) → r ≡ ok a u → f a u ≡ ok b t′ → C) → then r f ≡ ok b t′ → C
 then-elim (ok a u) f b t′ k e = k a u refl e
 then-elim (refuse n) f b t′ k e = absurd (let q : _≡_ {A = ℕ} 0 1 = cc in omega arith)
 
-ok-same : {A : Type 0} (P : A → Words → Type 0) (a b : A) (t u : Words) → ok a t ≡ ok b u → P a t → P b u
+pub ok-same : {A : Type 0} (P : A → Words → Type 0) (a b : A) (t u : Words) → ok a t ≡ ok b u → P a t → P b u
 ok-same P a b t u e p =
     let x : a ≡ b = cc in
     let y : t ≡ u = cc in
@@ -52,11 +52,11 @@ unfolding mapList
 pairs-map f g [] = refl
 pairs-map f g (x ∷ xs) = ap (λ (y : List (Pair _)). mapPair (λ x. f (g x)) x ∷ y) (pairs-map f g xs)
 
-every-less : {s n : ℕ} → s ≤ n → {xs : List ℕ} → Every (λ x. x < s) xs → Every (λ x. x < n) xs
+pub every-less : {s n : ℕ} → s ≤ n → {xs : List ℕ} → Every (λ x. x < s) xs → Every (λ x. x < n) xs
 every-less le nil = nil
 every-less le (one {x = x} p ps) = one {x = x} (omega arith) (every-less le ps)
 
-pairs-less : {s n : ℕ} → s ≤ n → {xs : List (Pair ℕ)} → EveryPair (λ x. x < s) xs → EveryPair (λ x. x < n) xs
+pub pairs-less : {s n : ℕ} → s ≤ n → {xs : List (Pair ℕ)} → EveryPair (λ x. x < s) xs → EveryPair (λ x. x < n) xs
 pairs-less le nilPair = nilPair
 pairs-less le (onePair {x = x} p ps) = onePair {x = x} (omega arith) (pairs-less le ps)
 
@@ -72,11 +72,11 @@ names-less : {s n : ℕ} → s ≤ n → (a : ℕ) (b : Bool) → NamesIn (λ x.
 names-less le a true q = absent
 names-less le a false (inNamed (one p ps)) = present {x = a} (omega arith)
 
-every-perhaps : {s n : ℕ} → s ≤ n → {x : Option (List ℕ)} → PerhapsEvery (λ x. x < s) x → PerhapsEvery (λ x. x < n) x
+pub every-perhaps : {s n : ℕ} → s ≤ n → {x : Option (List ℕ)} → PerhapsEvery (λ x. x < s) x → PerhapsEvery (λ x. x < n) x
 every-perhaps le absents = absents
 every-perhaps le (presents q) = presents (every-less le q)
 
-every-names : {s n : ℕ} → s ≤ n → {x : Names ℕ} → NamesIn (λ x. x < s) x → NamesIn (λ x. x < n) x
+pub every-names : {s n : ℕ} → s ≤ n → {x : Names ℕ} → NamesIn (λ x. x < s) x → NamesIn (λ x. x < n) x
 every-names le inNone = inNone
 every-names le (inDetects {x = x} p) = inDetects {x = x} (omega arith)
 every-names le (inNamed q) = inNamed (every-less le q)

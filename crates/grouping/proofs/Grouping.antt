@@ -38,7 +38,7 @@ use Rattle.grouping.proofs.Anywhere.{Alike, treeIn, grows, grows′, de
 use Rattle.grouping.proofs.Instance.{For, instead, find-self, regrouped}
 
 -- texts of equal bytes are one key
-text-keys : (pool texts : List ℕ) → Keys (sameText pool texts)
+pub text-keys : (pool texts : List ℕ) → Keys (sameText pool texts)
 text-keys pool texts = record {
   self = λ a. same-text-number pool texts a a refl;
   turn = λ a b. same-text-sym pool texts a b;

@@ -161,7 +161,7 @@ module _ {A : Type 0} (eq : ℕ → ℕ → Bool) (K : Keys eq) where
       go true e ih = new (lacks-as (q .key) (p .key) qs e lacks) d
       go false e ih = new (lacks-put (q .key) p qs (K .turn (p .key) (q .key) ∙ e) lacks) ih
 
-  putAll-distinct : (l xs : List (Pair A)) → Distinct l → Distinct (putAll eq l xs)
+  pub putAll-distinct : (l xs : List (Pair A)) → Distinct l → Distinct (putAll eq l xs)
   unfolding putAll
   putAll-distinct l [] d = d
   putAll-distinct l (x ∷ xs) d = putAll-distinct (put eq x l) xs (put-distinct x l d)

@@ -135,7 +135,7 @@ module _ {P : ℕ → Type 0} (eq : ℕ → ℕ → Bool) where
   putAll-in l [] a nilPair = a
   putAll-in l (x ∷ xs) a (onePair b bs) = putAll-in (put eq x l) xs (put-in x l b a) bs
 
-append-in : {P : ℕ → Type 0} {xs ys : List ℕ} → Every P xs → Every P ys → Every P (xs ++ ys)
+pub append-in : {P : ℕ → Type 0} {xs ys : List ℕ} → Every P xs → Every P ys → Every P (xs ++ ys)
 append-in nil b = b
 append-in (one p ps) b = one p (append-in ps b)
 

@@ -22,7 +22,7 @@ pairs-from links first k (suc n) =
     ap (λ (x : List (Pair ℕ)). record { key = getD links (first + k * 2) 0; value = getD links (first + k * 2 + 1) 0 } ∷ x)
     (pairs-from links first (k + 1) n ∙ ap (λ (at : ℕ). pairsAt links at n) (omega arith))
 
-pairs-are : (links : List ℕ) (first n : ℕ) → pairsFrom links first 0 n ≡ pairsAt links first n
+pub pairs-are : (links : List ℕ) (first n : ℕ) → pairsFrom links first 0 n ≡ pairsAt links first n
 pairs-are links first n = pairs-from links first 0 n ∙ ap (λ (at : ℕ). pairsAt links at n) (omega arith)
 
 -- the words of a record are a part of the table

@@ -21,7 +21,7 @@ never : {A : Type 0} {t n : ℕ} → Bad t n ≡ Sound → A
 never h = let z : _≡_ {A = ℕ} 0 1 = cc in absurd (omega arith)
 
 -- sizes after a good one are judged alike
-size-more : (a b : Bool) (table : ℕ) (x y : Fault) → (a ≡ true → b ≡ true) → (x ≡ Sound → y ≡ Sound) → sizeOr a table x ≡ Sound → sizeOr b table y ≡ Sound
+pub size-more : (a b : Bool) (table : ℕ) (x y : Fault) → (a ≡ true → b ≡ true) → (x ≡ Sound → y ≡ Sound) → sizeOr a table x ≡ Sound → sizeOr b table y ≡ Sound
 unfolding sizeOr
 size-more true b table x y p q h = ap (λ (c : Bool). sizeOr c table y) (p refl) ∙ q h
 size-more false b table x y p q h = never h

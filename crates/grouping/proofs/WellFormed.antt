@@ -158,7 +158,7 @@ module _ (schemas : List ℕ) (s : ℕ) where
       cases false false false false false false false false false false l true q h = false-not (sym q)
 
 -- lists and pairs that lie below a limit
-list-every : (links : List ℕ) (at n limit : ℕ) → ((k : ℕ) → k < n → getD links (at + k) 0 < limit) → Every (λ x. x < limit) (slice links at n)
+pub list-every : (links : List ℕ) (at n limit : ℕ) → ((k : ℕ) → k < n → getD links (at + k) 0 < limit) → Every (λ x. x < limit) (slice links at n)
 unfolding slice
 list-every links at zero limit h = nil
 list-every links at (suc n) limit h =
@@ -167,19 +167,19 @@ list-every links at (suc n) limit h =
     one (subst (λ (i : ℕ). getD links i 0 < limit) place here)
     (list-every links (at + 1) n limit (λ k i. let next : at + suc k ≡ at + 1 + k = omega arith in subst (λ (j : ℕ). getD links j 0 < limit) next (h (suc k) (omega arith))))
 
-pairs-every : (links : List ℕ) (first k n limit : ℕ) → ((j : ℕ) → k ≤ j → j < k + n → pairValue links first j < limit) → EveryPair (λ x. x < limit) (pairsFrom links first k n)
+pub pairs-every : (links : List ℕ) (first k n limit : ℕ) → ((j : ℕ) → k ≤ j → j < k + n → pairValue links first j < limit) → EveryPair (λ x. x < limit) (pairsFrom links first k n)
 unfolding pairsFrom
 pairs-every links first k zero limit h = nilPair
 pairs-every links first k (suc n) limit h = onePair (h k (omega arith) (omega arith)) (pairs-every links first (k + 1) n limit (λ j a b. h j (omega arith) (omega arith)))
 
-word-every : {s : ℕ} (w : ℕ) → Optional w s → PerhapsEvery (λ x. x < s) (pick (eqb w NONE) none (some (w ∷ [])))
+pub word-every : {s : ℕ} (w : ℕ) → Optional w s → PerhapsEvery (λ x. x < s) (pick (eqb w NONE) none (some (w ∷ [])))
 word-every {s} w h = at (eqb w NONE) refl
   where
     at : (b : Bool) → eqb w NONE ≡ b → PerhapsEvery (λ x. x < s) (pick b none (some (w ∷ [])))
     at true e = absents
     at false e = presents (one (below-limit h (λ q. eqb-false w NONE e q)) nil)
 
-word-names : {s : ℕ} (w : ℕ) → Optional w s → NamesIn (λ x. x < s) (pick (eqb w NONE) nameless (named (w ∷ [])))
+pub word-names : {s : ℕ} (w : ℕ) → Optional w s → NamesIn (λ x. x < s) (pick (eqb w NONE) nameless (named (w ∷ [])))
 word-names {s} w h = at (eqb w NONE) refl
   where
     at : (b : Bool) → eqb w NONE ≡ b → NamesIn (λ x. x < s) (pick b nameless (named (w ∷ [])))

@@ -1,3 +1,4 @@
 pub mod Navigation
 pub mod Calls
 pub mod Examples
+pub mod Grouping
