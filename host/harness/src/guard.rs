@@ -6,6 +6,7 @@
 
 use crate::case::Case;
 use crate::generate::{self, Stream};
+use crate::grouped::Grouping;
 use crate::judge::{Ask, Heard, Judged};
 use crate::remote::Remote;
 use crate::shrink::shrink;
@@ -270,6 +271,9 @@ fn one(
     tally: &mut Tally,
     beat: Option<&Place>,
 ) -> Result<(), String> {
+    if plan.stream == Stream::Grouped {
+        return one_grouping(plan, index, checkers, tally, beat);
+    }
     let case = generate::case(plan.stream, plan.seed, index);
     let judged = Judged::of(&case, plan.stream.ask());
     let answer = judged.expected.answer.number;
@@ -304,4 +308,58 @@ fn one(
         return Err(format!("{head}\nsmallest: {left}\n{small}"));
     }
     Ok(())
+}
+
+/// One grouping through every checker; the same of a difference.
+fn one_grouping(
+    plan: Plan,
+    index: u64,
+    checkers: &[(&str, Box<dyn Checker>)],
+    tally: &mut Tally,
+    beat: Option<&Place>,
+) -> Result<(), String> {
+    let grouping = generate::grouping(plan.seed, index);
+    let Some(judge) = grouping.run(&Model) else {
+        tally.add("not a grouping", "cases");
+        return Ok(());
+    };
+    judge.count(&grouping, tally);
+    for (name, checker) in checkers {
+        let checker = checker.as_ref();
+        let Err(difference) = grouped_difference(&grouping, checker) else {
+            continue;
+        };
+        let head = format!(
+            "seed {} index {index} stream grouped: {name}: {difference}",
+            plan.seed
+        );
+        let Some(place) = beat else {
+            return Err(head);
+        };
+        let beats = Cell::new(0);
+        let of = |case: &Case| Grouping {
+            case: case.clone(),
+            ..grouping.clone()
+        };
+        let small = shrink(grouping.case.clone(), |case| {
+            beats.set(beats.get() + 1);
+            let _ = place.set(index, beats.get());
+            grouped_difference(&of(case), checker).is_err()
+        });
+        let small = of(&small);
+        let left = grouped_difference(&small, checker)
+            .err()
+            .unwrap_or_default();
+        return Err(format!("{head}\nsmallest: {left}\n{small}"));
+    }
+    Ok(())
+}
+
+/// Whether both versions say the same, and what the second judge says.
+fn grouped_difference(grouping: &Grouping, checker: &dyn Checker) -> Result<(), String> {
+    let (Some(ran), Some(judge)) = (grouping.run(checker), grouping.run(&Model)) else {
+        return Ok(());
+    };
+    ran.alike()?;
+    ran.as_judged(&judge)
 }

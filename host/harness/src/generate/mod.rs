@@ -3,10 +3,11 @@
 mod build;
 mod damage;
 mod deep;
+mod grouped;
 mod objects;
 mod pairs;
 mod paths;
-mod room;
+pub(crate) mod room;
 mod schemas;
 mod values;
 
@@ -14,6 +15,7 @@ use crate::case::{Case, Request};
 use crate::judge::Ask;
 use crate::rng::Rng;
 use build::Build;
+pub use grouped::grouping;
 pub use pairs::pairs;
 use quarto_yaml_tables::layout::{INSTANCE_WORDS, SCHEMA_WORDS};
 use quarto_yaml_tables::{Mode, RawTables};
@@ -39,13 +41,15 @@ pub enum Stream {
     DamagedNavigate,
     /// Each word of each table in turn, pushed to each boundary value.
     Sweep,
+    /// Compiling with runs of bases grouped and not, then validating against both results.
+    Grouped,
     /// What never ends in the original: this tries the guard.
     Endless,
 }
 
 impl Stream {
     /// All streams by their names.
-    pub const NAMES: [(&'static str, Stream); 10] = [
+    pub const NAMES: [(&'static str, Stream); 11] = [
         ("all", Stream::All),
         ("navigate", Stream::Navigate),
         ("validate", Stream::Validate),
@@ -55,6 +59,7 @@ impl Stream {
         ("damaged", Stream::Damaged),
         ("damaged-navigate", Stream::DamagedNavigate),
         ("sweep", Stream::Sweep),
+        ("grouped", Stream::Grouped),
         ("endless", Stream::Endless),
     ];
 
@@ -89,6 +94,9 @@ pub fn case(stream: Stream, seed: u64, index: u64) -> Case {
         let mut rng = Rng::of_case(seed, base);
         let case = sound(kinds[(base % 3) as usize], &mut rng);
         return damage::swept(case, (index % SWEEP) as usize);
+    }
+    if stream == Stream::Grouped {
+        return grouping(seed, index).case;
     }
     let mut rng = Rng::of_case(seed, index);
     let stream = match stream {

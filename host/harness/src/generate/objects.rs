@@ -9,7 +9,7 @@ impl Build<'_> {
     pub fn object_schema(&mut self, target: Option<Node>, depth: usize) -> Schema {
         let entries = target.map_or_else(Vec::new, |target| self.string_entries(target));
         let mut rules = ObjectRules {
-            closed: self.rng.percent(25),
+            closed: self.rng.percent(if self.grouped { 8 } else { 25 }),
             ..ObjectRules::default()
         };
         if depth > 0 {
@@ -17,18 +17,18 @@ impl Build<'_> {
             if self.rng.percent(25) {
                 rules.pattern_properties = self.pattern_properties(depth);
             }
-            if self.rng.percent(40) {
+            if self.rng.percent(if self.grouped { 60 } else { 40 }) {
                 let value = self.rng.pick_some(&entries).map(|entry| entry.1);
-                rules.additional = Some(self.schema_for(value, depth - 1));
+                rules.additional = Some(self.additional(value, depth - 1));
             }
-            if self.rng.percent(30) {
+            if self.rng.percent(if self.grouped { 60 } else { 30 }) {
                 rules.names = Some(self.names_schema());
             }
             if self.rng.percent(self.bases) {
                 rules.bases = Some(self.base_list(target, depth));
             }
         }
-        for _ in 0..self.rng.below(3) {
+        for _ in 0..self.rng.below(if self.grouped { 2 } else { 3 }) {
             rules.required.push(self.required_text(&entries));
         }
         if self.rng.percent(20) {
@@ -62,7 +62,9 @@ impl Build<'_> {
 
     fn required_text(&mut self, entries: &[(Text, Node)]) -> Text {
         match self.rng.pick_some(entries) {
-            Some((text, _)) if self.rng.percent(85) => self.same_text(text),
+            Some((text, _)) if self.rng.percent(if self.grouped { 95 } else { 85 }) => {
+                self.same_text(text)
+            }
             _ => self.string_text(),
         }
     }
@@ -109,8 +111,40 @@ impl Build<'_> {
         properties
     }
 
+    /// A schema for further properties; joins, where these are to be frequent.
+    fn additional(&mut self, value: Option<Node>, depth: usize) -> Schema {
+        if !self.grouped || self.rng.percent(75) {
+            return self.schema_for(value, depth);
+        }
+        let parts: Vec<Schema> = (0..self.rng.below(3))
+            .map(|_| self.schema_for(value, depth))
+            .collect();
+        let note = self.rng.percent(20).then(|| self.case_note());
+        let schema = match self.rng.percent(80) {
+            true => self.tables.all_of(note, &parts),
+            false => self.tables.any_of(note, &parts),
+        };
+        self.keep_schema(schema)
+    }
+
+    /// Joined names, some of them over one that detects the case.
+    fn joined_names(&mut self) -> Schema {
+        let parts: Vec<Schema> = (0..self.rng.below(3))
+            .map(|_| self.names_schema())
+            .collect();
+        let note = self.rng.percent(20).then(|| self.case_note());
+        let schema = match self.rng.percent(80) {
+            true => self.tables.any_of(note, &parts),
+            false => self.tables.all_of(note, &parts),
+        };
+        self.keep_schema(schema)
+    }
+
     /// A schema for names: some detect the case, some look as if they did.
     fn names_schema(&mut self) -> Schema {
+        if self.grouped && self.rng.percent(25) {
+            return self.joined_names();
+        }
         let note = if self.rng.percent(50) {
             Some(self.case_note())
         } else {
@@ -120,7 +154,8 @@ impl Build<'_> {
             0 => self.tables.any_schema(note),
             1 => {
                 let text = self.name_text();
-                self.tables.reference(note, text, true)
+                let eager = !self.grouped || self.rng.percent(5);
+                self.tables.reference(note, text, eager)
             }
             _ => self.tables.string_schema(note, &StringRules::default()),
         };
@@ -128,17 +163,27 @@ impl Build<'_> {
     }
 
     fn base_list(&mut self, target: Option<Node>, depth: usize) -> Vec<Schema> {
-        let count = self.rng.pick(&[0, 1, 1, 1, 2, 2, 2, 3]);
+        let count = match self.grouped {
+            true => self
+                .rng
+                .pick(&[1, 1, 1, 2, 2, 2, 2, 3, 3, 3, 3, 4, 4, 5, 0]),
+            false => self.rng.pick(&[0, 1, 1, 1, 2, 2, 2, 3]),
+        };
         (0..count).map(|_| self.base(target, depth)).collect()
     }
 
     /// A base: mostly an object or an eager reference to one.
     fn base(&mut self, target: Option<Node>, depth: usize) -> Schema {
-        match self.rng.below(24) {
+        let sound = self.grouped && self.rng.percent(90);
+        match if sound {
+            self.rng.between(2, 23)
+        } else {
+            self.rng.below(24)
+        } {
             0 => self.schema_for(target, depth - 1),
             1 => {
                 let (note, name) = (self.some_note(), self.name_text());
-                let eager = self.rng.percent(60);
+                let eager = self.eager(60);
                 let schema = self.tables.reference(note, name, eager);
                 self.keep_schema(schema)
             }
