@@ -279,6 +279,9 @@ fn one(
     let answer = judged.expected.answer.number;
     let number = judged.expected.then.map_or(answer, |then| then.number);
     tally.add(case.request.name(), &number.to_string());
+    if plan.stream == Stream::Edges {
+        tally.add(&generate::edge(index).to_string(), &number.to_string());
+    }
     match judged.heard {
         Heard::Outside(reason) => tally.add("not compared with the original", reason),
         _ => tally.add("compared with the original", case.request.name()),

@@ -3,6 +3,7 @@
 mod build;
 mod damage;
 mod deep;
+mod edges;
 mod grouped;
 mod objects;
 mod pairs;
@@ -15,6 +16,7 @@ use crate::case::{Case, Request};
 use crate::judge::Ask;
 use crate::rng::Rng;
 use build::Build;
+pub use edges::{EDGES, Edge, edge};
 pub use grouped::grouping;
 pub use pairs::pairs;
 use quarto_yaml_tables::layout::{INSTANCE_WORDS, SCHEMA_WORDS};
@@ -41,6 +43,8 @@ pub enum Stream {
     DamagedNavigate,
     /// Each word of each table in turn, pushed to each boundary value.
     Sweep,
+    /// Compiling at the edges of the room, of the limits and of the used counts.
+    Edges,
     /// Compiling with runs of bases grouped and not, then validating against both results.
     Grouped,
     /// What never ends in the original: this tries the guard.
@@ -49,7 +53,7 @@ pub enum Stream {
 
 impl Stream {
     /// All streams by their names.
-    pub const NAMES: [(&'static str, Stream); 11] = [
+    pub const NAMES: [(&'static str, Stream); 12] = [
         ("all", Stream::All),
         ("navigate", Stream::Navigate),
         ("validate", Stream::Validate),
@@ -59,6 +63,7 @@ impl Stream {
         ("damaged", Stream::Damaged),
         ("damaged-navigate", Stream::DamagedNavigate),
         ("sweep", Stream::Sweep),
+        ("edges", Stream::Edges),
         ("grouped", Stream::Grouped),
         ("endless", Stream::Endless),
     ];
@@ -105,6 +110,7 @@ pub fn case(stream: Stream, seed: u64, index: u64) -> Case {
     };
     let kind = match stream {
         Stream::Endless => return deep::endless(index),
+        Stream::Edges => return edges::case(edge(index), &mut rng),
         Stream::Damaged => rng.pick(&[Stream::Navigate, Stream::Validate, Stream::Compile]),
         Stream::DamagedNavigate => Stream::Navigate,
         other => other,

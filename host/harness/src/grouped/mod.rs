@@ -111,6 +111,11 @@ impl Ran {
         self
     }
 
+    /// Whether both versions compile.
+    pub fn compiled(&self) -> bool {
+        self.numbers() == [0, 0]
+    }
+
     fn numbers(&self) -> [u32; 2] {
         [&self.flat, &self.grouped].map(|side| side.compiled.answer.number)
     }
