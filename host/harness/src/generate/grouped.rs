@@ -5,7 +5,7 @@ use super::room::GROWING;
 use crate::case::{Case, Request};
 use crate::grouped::{Grouping, Run, bases, regroup};
 use crate::rng::Rng;
-use quarto_yaml_tables::layout::{NONE, REGISTRY, SCHEMAS, schema};
+use quarto_yaml_tables::layout::{NONE, REGISTRY, SCHEMAS, node, schema};
 use quarto_yaml_tables::{ArrayRules, Node, RawTables, Schema};
 
 /// Schemas that are drawn, at most, for one that has a run.
@@ -27,6 +27,7 @@ pub fn grouping(seed: u64, index: u64) -> Grouping {
 fn drawn(rng: &mut Rng) -> Grouping {
     let mut build = Build::new(rng);
     (build.grouped, build.bases) = (true, 55);
+    build.duplicates = 1;
     let depth = build.rng.between(1, 3);
     let node = match build.rng.percent(85) {
         true => build.object(depth),
@@ -38,7 +39,7 @@ fn drawn(rng: &mut Rng) -> Grouping {
         false => build.schema_for(Some(node), depth),
     };
     build.register_some(root);
-    let mut values = vec![node, build.variant(node), build.value(2)];
+    let mut values = vec![node, another(&mut build, node), another(&mut build, node)];
     let root = match build.rng.percent(1) {
         true => deepened(&mut build, root, &mut values),
         false => root,
@@ -57,6 +58,39 @@ fn drawn(rng: &mut Rng) -> Grouping {
         values: values.into_iter().map(Node::get).collect(),
         spare,
     }
+}
+
+/// A value like this one: an object with some entries changed and perhaps one more.
+fn another(build: &mut Build<'_>, of: Node) -> Node {
+    let [kind, first, count, _] = build.tables.raw().node(of.get());
+    if kind != node::OBJECT || build.rng.percent(10) {
+        return build.variant(of);
+    }
+    let links = build.nodes_at(first, 2 * count);
+    let mut entries: Vec<(Node, Node)> = links
+        .chunks_exact(2)
+        .map(|pair| (pair[0], pair[1]))
+        .collect();
+    for entry in &mut entries {
+        if build.rng.percent(25) {
+            entry.1 = build.value(1);
+        }
+    }
+    if build.rng.percent(40) {
+        let text = build.string_text();
+        let raw = build.tables.raw();
+        let there = entries.iter().any(|entry| {
+            let [kind, key, ..] = raw.node(entry.0.get());
+            kind == node::STRING && raw.text(key) == build.tables.bytes(text)
+        });
+        if !there {
+            let key = build.tables.string(text);
+            let entry = (build.keep_node(key), build.value(1));
+            entries.push(entry);
+        }
+    }
+    let made = build.tables.object(&entries);
+    build.keep_node(made)
 }
 
 /// Schema and values inside so many arrays that a level more or less decides.

@@ -12,29 +12,36 @@ impl Build<'_> {
             closed: self.rng.percent(if self.grouped { 8 } else { 25 }),
             ..ObjectRules::default()
         };
-        if depth > 0 {
-            rules.properties = self.properties(&entries, depth);
+        // bases at the bottom would have nothing to join
+        let inner = if self.grouped { depth.max(1) } else { depth };
+        if inner > 0 {
+            rules.properties = self.properties(&entries, inner);
             if self.rng.percent(25) {
-                rules.pattern_properties = self.pattern_properties(depth);
+                rules.pattern_properties = self.pattern_properties(inner);
             }
             if self.rng.percent(if self.grouped { 60 } else { 40 }) {
-                let value = self.rng.pick_some(&entries).map(|entry| entry.1);
-                rules.additional = Some(self.additional(value, depth - 1));
+                rules.additional = Some(self.additional(&entries, inner));
             }
             if self.rng.percent(if self.grouped { 60 } else { 30 }) {
                 rules.names = Some(self.names_schema());
             }
-            if self.rng.percent(self.bases) {
+            if depth > 0 && self.rng.percent(self.bases) {
                 rules.bases = Some(self.base_list(target, depth));
             }
         }
-        for _ in 0..self.rng.below(if self.grouped { 2 } else { 3 }) {
+        let most = if self.grouped && self.rng.percent(70) {
+            1
+        } else {
+            3
+        };
+        for _ in 0..self.rng.below(most) {
             rules.required.push(self.required_text(&entries));
         }
-        if self.rng.percent(20) {
+        let part = if self.grouped { 10 } else { 20 };
+        if self.rng.percent(part) {
             rules.minimum = Some(self.rng.below(4) as u32);
         }
-        if self.rng.percent(20) {
+        if self.rng.percent(part) {
             rules.maximum = Some((entries.len() + self.rng.below(4)).saturating_sub(1) as u32);
         }
         if self.rng.percent(20) {
@@ -71,9 +78,10 @@ impl Build<'_> {
 
     fn properties(&mut self, entries: &[(Text, Node)], depth: usize) -> Vec<(Text, Schema)> {
         let mut properties = Vec::new();
-        let all = self.rng.percent(60);
+        let part = if self.grouped { 20 } else { 60 };
+        let all = self.rng.percent(part);
         for &(text, value) in entries {
-            if all || self.rng.percent(60) {
+            if all || self.rng.percent(part) {
                 let key = self.same_text(text);
                 let schema = self.schema_for(Some(value), depth - 1);
                 self.add_property(&mut properties, key, schema);
@@ -111,20 +119,29 @@ impl Build<'_> {
         properties
     }
 
-    /// A schema for further properties; joins, where these are to be frequent.
-    fn additional(&mut self, value: Option<Node>, depth: usize) -> Schema {
-        if !self.grouped || self.rng.percent(75) {
-            return self.schema_for(value, depth);
+    /// A schema for further properties; where joins are to be frequent, joins and what accepts much.
+    fn additional(&mut self, entries: &[(Text, Node)], depth: usize) -> Schema {
+        let value = self.rng.pick_some(entries).map(|entry| entry.1);
+        if !self.grouped {
+            return self.schema_for(value, depth - 1);
         }
-        let parts: Vec<Schema> = (0..self.rng.below(3))
-            .map(|_| self.schema_for(value, depth))
-            .collect();
-        let note = self.rng.percent(20).then(|| self.case_note());
-        let schema = match self.rng.percent(80) {
-            true => self.tables.all_of(note, &parts),
-            false => self.tables.any_of(note, &parts),
-        };
-        self.keep_schema(schema)
+        let values: Vec<Node> = entries.iter().map(|entry| entry.1).collect();
+        match self.rng.below(10) {
+            0..=2 => self.any_kind_of_true(),
+            3..=5 => self.items_schema(&values, value, depth),
+            6 | 7 => self.schema_for(value, depth - 1),
+            _ => {
+                let parts: Vec<Schema> = (0..self.rng.below(3))
+                    .map(|_| self.items_schema(&values, value, depth))
+                    .collect();
+                let note = self.rng.percent(20).then(|| self.case_note());
+                let schema = match self.rng.percent(80) {
+                    true => self.tables.all_of(note, &parts),
+                    false => self.tables.any_of(note, &parts),
+                };
+                self.keep_schema(schema)
+            }
+        }
     }
 
     /// Joined names, some of them over one that detects the case.

@@ -32,7 +32,8 @@ impl Build<'_> {
         }
     }
 
-    fn any_kind_of_true(&mut self) -> Schema {
+    /// A schema that accepts everything.
+    pub fn any_kind_of_true(&mut self) -> Schema {
         let schema = if self.rng.percent(50) {
             self.tables.true_schema()
         } else {
@@ -278,7 +279,7 @@ impl Build<'_> {
     }
 
     /// A schema for one item, or an anyOf over all of them.
-    fn items_schema(&mut self, items: &[Node], item: Option<Node>, depth: usize) -> Schema {
+    pub fn items_schema(&mut self, items: &[Node], item: Option<Node>, depth: usize) -> Schema {
         if items.len() < 2 || self.rng.percent(50) {
             return self.schema_for(item, depth - 1);
         }
