@@ -145,9 +145,15 @@ impl<'r> Build<'r> {
         self.rng.pick_some(&self.schemas)
     }
 
+    /// The part of 100 that is usual, or the one where lists of bases are long.
+    pub fn part(&self, usual: usize, grouped: usize) -> usize {
+        if self.grouped { grouped } else { usual }
+    }
+
     /// Registers the root, and others, under names: that makes circles.
     pub fn register_some(&mut self, root: Schema) {
-        for _ in 0..self.rng.below(if self.grouped { 2 } else { 4 }) {
+        let most = self.part(4, 2);
+        for _ in 0..self.rng.below(most) {
             let schema = if self.rng.percent(30) {
                 root
             } else {
@@ -159,6 +165,7 @@ impl<'r> Build<'r> {
 
     /// Registers a schema under one of the names and gives a text of that name.
     pub fn register(&mut self, schema: Schema) -> Text {
+        // a name of its own: under few names most references would be circles
         if self.grouped && self.rng.percent(90) {
             let name = format!("g{}", self.tables.raw().texts.len());
             let name = fits(self.tables.text(&name));
@@ -175,8 +182,8 @@ impl<'r> Build<'r> {
 
     /// Whether a reference whose target may be unknown is eager; rarely, where much is to compile.
     pub fn eager(&mut self, part: usize) -> bool {
-        self.rng
-            .percent(if self.grouped { part / 10 } else { part })
+        let part = self.part(part, part / 10);
+        self.rng.percent(part)
     }
 
     /// A note, often none.

@@ -8,8 +8,9 @@ impl Build<'_> {
     /// An object schema, mostly one that fits the node.
     pub fn object_schema(&mut self, target: Option<Node>, depth: usize) -> Schema {
         let entries = target.map_or_else(Vec::new, |target| self.string_entries(target));
+        let closed = self.part(25, 8);
         let mut rules = ObjectRules {
-            closed: self.rng.percent(if self.grouped { 8 } else { 25 }),
+            closed: self.rng.percent(closed),
             ..ObjectRules::default()
         };
         // bases at the bottom would have nothing to join
@@ -19,10 +20,11 @@ impl Build<'_> {
             if self.rng.percent(25) {
                 rules.pattern_properties = self.pattern_properties(inner);
             }
-            if self.rng.percent(if self.grouped { 60 } else { 40 }) {
+            let [additional, names] = [self.part(40, 60), self.part(30, 60)];
+            if self.rng.percent(additional) {
                 rules.additional = Some(self.additional(&entries, inner));
             }
-            if self.rng.percent(if self.grouped { 60 } else { 30 }) {
+            if self.rng.percent(names) {
                 rules.names = Some(self.names_schema());
             }
             if depth > 0 && self.rng.percent(self.bases) {
@@ -37,7 +39,7 @@ impl Build<'_> {
         for _ in 0..self.rng.below(most) {
             rules.required.push(self.required_text(&entries));
         }
-        let part = if self.grouped { 10 } else { 20 };
+        let part = self.part(20, 10);
         if self.rng.percent(part) {
             rules.minimum = Some(self.rng.below(4) as u32);
         }
@@ -69,16 +71,14 @@ impl Build<'_> {
 
     fn required_text(&mut self, entries: &[(Text, Node)]) -> Text {
         match self.rng.pick_some(entries) {
-            Some((text, _)) if self.rng.percent(if self.grouped { 95 } else { 85 }) => {
-                self.same_text(text)
-            }
+            Some((text, _)) if self.rng.percent(self.part(85, 95)) => self.same_text(text),
             _ => self.string_text(),
         }
     }
 
     fn properties(&mut self, entries: &[(Text, Node)], depth: usize) -> Vec<(Text, Schema)> {
         let mut properties = Vec::new();
-        let part = if self.grouped { 20 } else { 60 };
+        let part = self.part(60, 20);
         let all = self.rng.percent(part);
         for &(text, value) in entries {
             if all || self.rng.percent(part) {
@@ -192,11 +192,11 @@ impl Build<'_> {
     /// A base: mostly an object or an eager reference to one.
     fn base(&mut self, target: Option<Node>, depth: usize) -> Schema {
         let sound = self.grouped && self.rng.percent(90);
-        match if sound {
-            self.rng.between(2, 23)
-        } else {
-            self.rng.below(24)
-        } {
+        let draw = match sound {
+            true => self.rng.between(2, 23),
+            false => self.rng.below(24),
+        };
+        match draw {
             0 => self.schema_for(target, depth - 1),
             1 => {
                 let (note, name) = (self.some_note(), self.name_text());

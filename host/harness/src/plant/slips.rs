@@ -19,10 +19,10 @@ pub struct Slip {
 /// Slips in merging, and one in a visit.
 pub const SLIPS: [Slip; 9] = [
     unseen("a base's minimum kept", |room, bases, derived| {
-        let minima = bases
+        let mut minima = bases
             .iter()
             .map(|&base| room.tables.schema(base)[schema::MINIMUM]);
-        let kept = minima.filter(|&word| word != NONE).next_back();
+        let kept = minima.rfind(|&word| word != NONE);
         let record = merge(room, bases, derived)?;
         let own = derived[schema::MINIMUM];
         let minimum = if own == NONE { kept } else { Some(own) };
