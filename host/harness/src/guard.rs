@@ -6,7 +6,6 @@
 
 use crate::case::Case;
 use crate::generate::{self, Stream};
-use crate::grouped::Grouping;
 use crate::judge::{Ask, Heard, Judged};
 use crate::remote::Remote;
 use crate::shrink::shrink;
@@ -329,7 +328,7 @@ fn one_grouping(
     judge.count(&grouping, tally);
     for (name, checker) in checkers {
         let checker = checker.as_ref();
-        let Err(difference) = grouped_difference(&grouping, checker) else {
+        let Err(difference) = grouping.held(checker, Some(&judge)) else {
             continue;
         };
         let head = format!(
@@ -340,29 +339,13 @@ fn one_grouping(
             return Err(head);
         };
         let beats = Cell::new(0);
-        let of = |case: &Case| Grouping {
-            case: case.clone(),
-            ..grouping.clone()
-        };
-        let small = shrink(grouping.case.clone(), |case| {
+        let small = grouping.smallest(|grouping| {
             beats.set(beats.get() + 1);
             let _ = place.set(index, beats.get());
-            grouped_difference(&of(case), checker).is_err()
+            grouping.held(checker, None).is_err()
         });
-        let small = of(&small);
-        let left = grouped_difference(&small, checker)
-            .err()
-            .unwrap_or_default();
+        let left = small.held(checker, None).err().unwrap_or_default();
         return Err(format!("{head}\nsmallest: {left}\n{small}"));
     }
     Ok(())
-}
-
-/// Whether both versions say the same, and what the second judge says.
-fn grouped_difference(grouping: &Grouping, checker: &dyn Checker) -> Result<(), String> {
-    let (Some(ran), Some(judge)) = (grouping.run(checker), grouping.run(&Model)) else {
-        return Ok(());
-    };
-    ran.alike()?;
-    ran.as_judged(&judge)
 }

@@ -1,7 +1,7 @@
 //! Opened trees, grouped runs, and what the comparison of both versions notices.
 
 use quarto_yaml_harness::generate::grouping;
-use quarto_yaml_harness::grouped::{Joins, Run, Tree, Trees, bases, regroup};
+use quarto_yaml_harness::grouped::{Grouping, Joins, Run, Tree, Trees, bases, regroup};
 use quarto_yaml_harness::plant::SLIPS;
 use quarto_yaml_model::{Model, check};
 use quarto_yaml_tables::layout::{NONE, SCHEMAS, schema};
@@ -257,15 +257,17 @@ fn both_versions_are_alike_and_are_groupings() {
 
 #[test]
 fn each_slip_is_noticed() {
-    for slip in &SLIPS {
-        let (mut by_grouping, mut by_judge) = (0, 0);
-        for index in 0..CASES {
-            let grouping = grouping(6, index);
+    let mut noticed = [(0, 0); SLIPS.len()];
+    for index in 0..CASES {
+        let grouping = grouping(6, index);
+        let judge = grouping.run(&Model).expect("both versions");
+        for (slip, (by_grouping, by_judge)) in SLIPS.iter().zip(&mut noticed) {
             let ran = grouping.run(slip).expect("both versions");
-            let judge = grouping.run(&Model).expect("both versions");
-            by_grouping += usize::from(ran.alike().is_err());
-            by_judge += usize::from(ran.as_judged(&judge).is_err());
+            *by_grouping += usize::from(ran.alike().is_err());
+            *by_judge += usize::from(ran.as_judged(&judge).is_err());
         }
+    }
+    for (slip, (by_grouping, by_judge)) in SLIPS.iter().zip(noticed) {
         println!(
             "{}: of {CASES} groupings {by_grouping} differ, {by_judge} by the second judge",
             slip.name
@@ -273,6 +275,24 @@ fn each_slip_is_noticed() {
         assert!(by_judge > 0, "{} escaped", slip.name);
         assert_eq!(by_grouping > 0, slip.seen_by_grouping, "{}", slip.name);
     }
+}
+
+#[test]
+fn a_failing_grouping_is_made_small() {
+    let slip = SLIPS
+        .iter()
+        .find(|slip| slip.name == "additional joined by anyOf");
+    let slip = slip.expect("that slip");
+    let fails = |grouping: &Grouping| grouping.run(slip).is_some_and(|ran| ran.alike().is_err());
+    let failing = (0..).map(|index| grouping(8, index)).find(fails);
+    let failing = failing.expect("a join somewhere");
+    let size = |grouping: &Grouping| grouping.grouped().map(|case| case.tables.links.len());
+    let before = size(&failing);
+    let small = failing.smallest(fails);
+    assert!(fails(&small));
+    assert!(small.values.is_empty(), "trees need no value: {small}");
+    assert!(size(&small) < before, "{small}");
+    assert!(small.case.tables.nodes.is_empty(), "{small}");
 }
 
 /// Right compiles; a validation's outcome is changed for every other table.

@@ -14,8 +14,9 @@ pub use regroup::{Run, bases, regroup};
 use crate::case::{Case, Request};
 use crate::generate::room;
 use crate::run::{Outcome, run};
+use crate::shrink::shrink;
 use crate::tally::Tally;
-use quarto_yaml_model::check;
+use quarto_yaml_model::{Model, check};
 use quarto_yaml_tables::layout::{INSTANCE_WORDS, NONE, SCHEMA_WORDS, schema};
 use quarto_yaml_tables::{Checker, Mode, RawTables, detail};
 use std::fmt;
@@ -74,6 +75,49 @@ impl Grouping {
         }
         check(&tables).ok()?;
         Some(room::lent(tables, schema, self.spare))
+    }
+
+    /// Whether a checker says the same of both versions, and what the second judge says.
+    pub fn held(&self, checker: &dyn Checker, judge: Option<&Ran>) -> Result<(), String> {
+        let Some(ran) = self.run(checker) else {
+            return Ok(());
+        };
+        ran.alike()?;
+        match judge {
+            Some(judge) => ran.as_judged(judge),
+            None => self
+                .run(&Model)
+                .map_or(Ok(()), |judge| ran.as_judged(&judge)),
+        }
+    }
+
+    /// The smallest form that still fails: fewer runs and values, then smaller tables.
+    pub fn smallest(self, fails: impl Fn(&Grouping) -> bool) -> Grouping {
+        let mut small = self;
+        for runs in 1..small.runs.len() {
+            let mut fewer = small.clone();
+            fewer.runs.truncate(runs);
+            if fails(&fewer) {
+                small = fewer;
+                break;
+            }
+        }
+        let each = small.values.iter().map(|&value| vec![value]);
+        for values in [vec![]].into_iter().chain(each.collect::<Vec<_>>()) {
+            let fewer = Grouping {
+                values,
+                ..small.clone()
+            };
+            if fails(&fewer) {
+                small = fewer;
+                break;
+            }
+        }
+        let of = |case: &Case| Grouping {
+            case: case.clone(),
+            ..small.clone()
+        };
+        of(&shrink(small.case.clone(), |case| fails(&of(case))))
     }
 
     /// Both versions through a checker; none where this is no grouping.
