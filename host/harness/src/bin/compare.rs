@@ -82,8 +82,12 @@ fn compare(seed: &str, count: &str, stream: &str) -> Result<ExitCode, String> {
         println!("difference: {difference}");
     }
     let names: Vec<&str> = guard::checkers().iter().map(|(name, _)| *name).collect();
+    let judges = match plan.stream {
+        Stream::Grouped => "both versions and the model",
+        _ => "the original and the model",
+    };
     println!(
-        "compare: {count} cases, seed {seed}, stream {stream}, {} against the original and the model: {} differ ({:.1} s, {:.0} cases/s)",
+        "compare: {count} cases, seed {seed}, stream {stream}, {} against {judges}: {} differ ({:.1} s, {:.0} cases/s)",
         names.join(" and "),
         report.differences.len(),
         seconds,
