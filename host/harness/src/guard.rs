@@ -270,11 +270,17 @@ fn one(
     tally: &mut Tally,
     beat: Option<&Place>,
 ) -> Result<(), String> {
+    if plan.stream == Stream::Grouped {
+        return one_grouping(plan, index, checkers, tally, beat);
+    }
     let case = generate::case(plan.stream, plan.seed, index);
     let judged = Judged::of(&case, plan.stream.ask());
     let answer = judged.expected.answer.number;
     let number = judged.expected.then.map_or(answer, |then| then.number);
     tally.add(case.request.name(), &number.to_string());
+    if plan.stream == Stream::Edges {
+        tally.add(&generate::edge(index).to_string(), &number.to_string());
+    }
     match judged.heard {
         Heard::Outside(reason) => tally.add("not compared with the original", reason),
         _ => tally.add("compared with the original", case.request.name()),
@@ -301,6 +307,44 @@ fn one(
         };
         let small = shrink(case.clone(), |case| matches!(again(case), (true, Err(_))));
         let left = again(&small).1.err().unwrap_or_default();
+        return Err(format!("{head}\nsmallest: {left}\n{small}"));
+    }
+    Ok(())
+}
+
+/// One grouping through every checker; the same of a difference.
+fn one_grouping(
+    plan: Plan,
+    index: u64,
+    checkers: &[(&str, Box<dyn Checker>)],
+    tally: &mut Tally,
+    beat: Option<&Place>,
+) -> Result<(), String> {
+    let grouping = generate::grouping(plan.seed, index);
+    let Some(judge) = grouping.run(&Model) else {
+        tally.add("not a grouping", "cases");
+        return Ok(());
+    };
+    judge.count(&grouping, tally);
+    for (name, checker) in checkers {
+        let checker = checker.as_ref();
+        let Err(difference) = grouping.held(checker, Some(&judge)) else {
+            continue;
+        };
+        let head = format!(
+            "seed {} index {index} stream grouped: {name}: {difference}",
+            plan.seed
+        );
+        let Some(place) = beat else {
+            return Err(head);
+        };
+        let beats = Cell::new(0);
+        let small = grouping.smallest(|grouping| {
+            beats.set(beats.get() + 1);
+            let _ = place.set(index, beats.get());
+            grouping.held(checker, None).is_err()
+        });
+        let left = small.held(checker, None).err().unwrap_or_default();
         return Err(format!("{head}\nsmallest: {left}\n{small}"));
     }
     Ok(())

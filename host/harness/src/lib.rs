@@ -5,6 +5,7 @@ pub use quarto_yaml_tables::remote;
 
 pub mod case;
 pub mod generate;
+pub mod grouped;
 pub mod guard;
 pub mod judge;
 pub mod pattern;

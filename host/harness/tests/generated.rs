@@ -1,7 +1,7 @@
 //! The generator, the shrinker and the stored answers.
 
 use quarto_yaml_harness::case::{Case, Request};
-use quarto_yaml_harness::generate::{self, Stream};
+use quarto_yaml_harness::generate::{self, EDGES, Stream};
 use quarto_yaml_harness::guard::with_large_stack;
 use quarto_yaml_harness::record::{
     Kind, bytes, pair_words, pairs, replay, replay_pairs, sample, words,
@@ -65,6 +65,24 @@ fn damage_reaches_every_table() {
         }
     }
     assert_eq!(seen[1..], [true; 9]);
+}
+
+#[test]
+fn each_edge_is_what_it_is_called() {
+    for index in 0..20 * EDGES.len() as u64 {
+        let mut case = generate::case(Stream::Edges, 3, index);
+        let edge = generate::edge(index);
+        let Request::Compile { used, schema } = case.request else {
+            panic!("{edge}: no compile");
+        };
+        let answer = Model.compile(&mut case.tables, used, schema);
+        assert_eq!(answer.number, edge.number(), "{edge}");
+        if answer.number == 20 {
+            let named = format!("table {} ", answer.table);
+            assert!(edge.to_string().starts_with(&named), "{edge}");
+            assert_eq!(answer.record, u32::MAX, "{edge}");
+        }
+    }
 }
 
 /// Wrong where a boolean schema refuses: everything passes.

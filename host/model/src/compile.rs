@@ -1,14 +1,22 @@
 //! Compiling a schema.
 
 use crate::check::check_used;
-use crate::merge;
+use crate::merge::merge;
 use crate::room::Room;
 use crate::visit::resolve;
 use quarto_yaml_tables::layout::{LEVELS, NONE, schema};
 use quarto_yaml_tables::{Answer, RawTables};
 
+/// How an object is merged with its compiled bases: the record, or the refusal's number.
+pub type Merge = fn(&mut Room<'_>, &[u32], &[u32; 16]) -> Result<u32, u32>;
+
 /// Compiles a schema into the room behind the used counts.
 pub fn compile(tables: &mut RawTables, used: [u32; 3], schema: u32) -> Answer {
+    compile_with(merge, tables, used, schema)
+}
+
+/// The same with another way of merging, so that a wrong one can be tried.
+pub fn compile_with(merge: Merge, tables: &mut RawTables, used: [u32; 3], schema: u32) -> Answer {
     let counts = match check_used(tables, used) {
         Ok(counts) => counts,
         Err(bad) => return with_used(bad.answer(), used),
@@ -18,6 +26,7 @@ pub fn compile(tables: &mut RawTables, used: [u32; 3], schema: u32) -> Answer {
     }
     let mut compiler = Compiler {
         room: Room { tables, used },
+        merge,
     };
     let result = compiler.visit(1, schema);
     let kept = match result {
@@ -47,6 +56,7 @@ fn with_used(answer: Answer, used: [u32; 3]) -> Answer {
 
 pub(crate) struct Compiler<'a> {
     pub(crate) room: Room<'a>,
+    merge: Merge,
 }
 
 impl Compiler<'_> {
@@ -77,7 +87,7 @@ impl Compiler<'_> {
             schema::OBJECT => {
                 let list = [words[schema::BASES], words[schema::BASES + 1]];
                 let bases = self.parts(level, list)?;
-                merge::merge(&mut self.room, &bases, &words)
+                (self.merge)(&mut self.room, &bases, &words)
             }
             _ => Ok(number),
         }

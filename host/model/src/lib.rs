@@ -14,7 +14,10 @@ mod room;
 mod visit;
 
 pub use check::{Bad, Counts, check, check_used};
+pub use compile::{Merge, compile_with};
 pub use json::{Equality, equal};
+pub use merge::merge;
+pub use room::Room;
 
 use quarto_yaml_tables::{Answer, Checker, Mode, RawTables};
 

@@ -55,14 +55,18 @@ fn worker(
 
 fn show(stream: &str, seed: &str, index: &str) -> Result<ExitCode, String> {
     let plan = plan(stream, seed)?;
-    print!("{}", generate::case(plan.stream, plan.seed, number(index)?));
+    let index = number(index)?;
+    match plan.stream {
+        Stream::Grouped => print!("{}", generate::grouping(plan.seed, index)),
+        stream => print!("{}", generate::case(stream, plan.seed, index)),
+    }
     Ok(ExitCode::SUCCESS)
 }
 
 fn compare(seed: &str, count: &str, stream: &str) -> Result<ExitCode, String> {
     let plan = plan(stream, seed)?;
     let count = number(count)?;
-    if !PRESENT {
+    if !PRESENT && plan.stream != Stream::Grouped {
         println!("compare: not run, the original's source is not there");
         return Ok(ExitCode::SUCCESS);
     }
@@ -78,8 +82,12 @@ fn compare(seed: &str, count: &str, stream: &str) -> Result<ExitCode, String> {
         println!("difference: {difference}");
     }
     let names: Vec<&str> = guard::checkers().iter().map(|(name, _)| *name).collect();
+    let judges = match plan.stream {
+        Stream::Grouped => "both versions and the model",
+        _ => "the original and the model",
+    };
     println!(
-        "compare: {count} cases, seed {seed}, stream {stream}, {} against the original and the model: {} differ ({:.1} s, {:.0} cases/s)",
+        "compare: {count} cases, seed {seed}, stream {stream}, {} against {judges}: {} differ ({:.1} s, {:.0} cases/s)",
         names.join(" and "),
         report.differences.len(),
         seconds,

@@ -28,6 +28,8 @@ pub struct Build<'r> {
     pub rng: &'r mut Rng,
     /// How many of 100 object schemas have bases.
     pub bases: usize,
+    /// Whether lists of bases are long and joins frequent.
+    pub grouped: bool,
     /// How many of 100 keys repeat an earlier one.
     pub duplicates: usize,
     strings: Vec<Text>,
@@ -50,6 +52,7 @@ impl<'r> Build<'r> {
             tables: Tables::new(),
             rng,
             bases: 0,
+            grouped: false,
             duplicates: 3,
             strings: Vec::new(),
             patterns: Vec::new(),
@@ -142,9 +145,15 @@ impl<'r> Build<'r> {
         self.rng.pick_some(&self.schemas)
     }
 
+    /// The part of 100 that is usual, or the one where lists of bases are long.
+    pub fn part(&self, usual: usize, grouped: usize) -> usize {
+        if self.grouped { grouped } else { usual }
+    }
+
     /// Registers the root, and others, under names: that makes circles.
     pub fn register_some(&mut self, root: Schema) {
-        for _ in 0..self.rng.below(4) {
+        let most = self.part(4, 2);
+        for _ in 0..self.rng.below(most) {
             let schema = if self.rng.percent(30) {
                 root
             } else {
@@ -156,12 +165,25 @@ impl<'r> Build<'r> {
 
     /// Registers a schema under one of the names and gives a text of that name.
     pub fn register(&mut self, schema: Schema) -> Text {
+        // a name of its own: under few names most references would be circles
+        if self.grouped && self.rng.percent(90) {
+            let name = format!("g{}", self.tables.raw().texts.len());
+            let name = fits(self.tables.text(&name));
+            fits(self.tables.register(name, schema));
+            return name;
+        }
         let name = self.name_text();
         if self.tables.bytes(name) == NAMES[3].as_bytes() {
             return name;
         }
         fits(self.tables.register(name, schema));
         self.same_text(name)
+    }
+
+    /// Whether a reference whose target may be unknown is eager; rarely, where much is to compile.
+    pub fn eager(&mut self, part: usize) -> bool {
+        let part = self.part(part, part / 10);
+        self.rng.percent(part)
     }
 
     /// A note, often none.

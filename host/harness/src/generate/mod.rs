@@ -3,10 +3,12 @@
 mod build;
 mod damage;
 mod deep;
+mod edges;
+mod grouped;
 mod objects;
 mod pairs;
 mod paths;
-mod room;
+pub(crate) mod room;
 mod schemas;
 mod values;
 
@@ -14,6 +16,8 @@ use crate::case::{Case, Request};
 use crate::judge::Ask;
 use crate::rng::Rng;
 use build::Build;
+pub use edges::{EDGES, Edge, edge};
+pub use grouped::grouping;
 pub use pairs::pairs;
 use quarto_yaml_tables::layout::{INSTANCE_WORDS, SCHEMA_WORDS};
 use quarto_yaml_tables::{Mode, RawTables};
@@ -39,13 +43,17 @@ pub enum Stream {
     DamagedNavigate,
     /// Each word of each table in turn, pushed to each boundary value.
     Sweep,
+    /// Compiling at the edges of the room, of the limits and of the used counts.
+    Edges,
+    /// Compiling with runs of bases grouped and not, then validating against both results.
+    Grouped,
     /// What never ends in the original: this tries the guard.
     Endless,
 }
 
 impl Stream {
     /// All streams by their names.
-    pub const NAMES: [(&'static str, Stream); 10] = [
+    pub const NAMES: [(&'static str, Stream); 12] = [
         ("all", Stream::All),
         ("navigate", Stream::Navigate),
         ("validate", Stream::Validate),
@@ -55,6 +63,8 @@ impl Stream {
         ("damaged", Stream::Damaged),
         ("damaged-navigate", Stream::DamagedNavigate),
         ("sweep", Stream::Sweep),
+        ("edges", Stream::Edges),
+        ("grouped", Stream::Grouped),
         ("endless", Stream::Endless),
     ];
 
@@ -90,6 +100,9 @@ pub fn case(stream: Stream, seed: u64, index: u64) -> Case {
         let case = sound(kinds[(base % 3) as usize], &mut rng);
         return damage::swept(case, (index % SWEEP) as usize);
     }
+    if stream == Stream::Grouped {
+        return grouping(seed, index).case;
+    }
     let mut rng = Rng::of_case(seed, index);
     let stream = match stream {
         Stream::All => rng.pick(&MIXED),
@@ -97,6 +110,7 @@ pub fn case(stream: Stream, seed: u64, index: u64) -> Case {
     };
     let kind = match stream {
         Stream::Endless => return deep::endless(index),
+        Stream::Edges => return edges::case(edge(index), &mut rng),
         Stream::Damaged => rng.pick(&[Stream::Navigate, Stream::Validate, Stream::Compile]),
         Stream::DamagedNavigate => Stream::Navigate,
         other => other,

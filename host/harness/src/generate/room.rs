@@ -6,7 +6,14 @@ use quarto_yaml_model::Model;
 use quarto_yaml_tables::layout::{LINKS, NONE, NOTES, SCHEMAS, Table};
 use quarto_yaml_tables::{Checker, RawTables};
 
-const GROWING: [Table; 3] = [NOTES, SCHEMAS, LINKS];
+/// The tables that compiling appends to.
+pub const GROWING: [Table; 3] = [NOTES, SCHEMAS, LINKS];
+
+/// Room that suffices for nearly all generated cases.
+const AMPLE: [usize; 3] = [60, 400, 1_500];
+
+/// A word that is right nowhere.
+const STAIN: u32 = 0x5eed_5eed;
 
 /// A compile over these tables, with room that is ample, exact, short or at the limits.
 pub fn compile(
@@ -19,7 +26,7 @@ pub fn compile(
         near_limits(&mut tables, rng);
     }
     let used = GROWING.map(|table| tables.count(table) as u32);
-    let mut spare = [60, 400, 1_500];
+    let mut spare = AMPLE;
     if rng.percent(15) {
         spare = needed(&tables, used, schema);
         let place = rng.below(3);
@@ -48,10 +55,38 @@ pub fn compile(
     }
 }
 
-/// The room that this compile takes, by the second judge.
-fn needed(tables: &RawTables, used: [u32; 3], schema: u32) -> [usize; 3] {
+/// The tables cut at the used counts.
+pub fn in_use(tables: &RawTables, used: [u32; 3]) -> RawTables {
     let mut tables = tables.clone();
-    for (table, spare) in GROWING.into_iter().zip([60, 400, 1_500]) {
+    for (table, used) in GROWING.into_iter().zip(used) {
+        let end = (used as usize).saturating_mul(table.words);
+        tables.words_mut(table).truncate(end);
+    }
+    tables
+}
+
+/// A compile over tables without room: with this room, or where none is given with what the second
+/// judge takes and a little more, ample where it refuses. The room holds garbage.
+pub fn lent(mut tables: RawTables, schema: u32, spare: Option<[usize; 3]>) -> Case {
+    let used = GROWING.map(|table| tables.count(table) as u32);
+    let spare = spare.unwrap_or_else(|| match needed(&tables, used, schema) {
+        [0, 0, 0] => AMPLE,
+        [notes, schemas, links] => [notes + 1, schemas, links + 3],
+    });
+    for (table, spare) in GROWING.into_iter().zip(spare) {
+        let words = tables.words_mut(table);
+        words.resize(words.len() + spare * table.words, STAIN);
+    }
+    Case {
+        tables,
+        request: Request::Compile { used, schema },
+    }
+}
+
+/// The room that this compile takes, by the second judge.
+pub fn needed(tables: &RawTables, used: [u32; 3], schema: u32) -> [usize; 3] {
+    let mut tables = tables.clone();
+    for (table, spare) in GROWING.into_iter().zip(AMPLE) {
         let words = tables.words_mut(table);
         words.resize(words.len() + spare * table.words, 0);
     }

@@ -32,7 +32,8 @@ impl Build<'_> {
         }
     }
 
-    fn any_kind_of_true(&mut self) -> Schema {
+    /// A schema that accepts everything.
+    pub fn any_kind_of_true(&mut self) -> Schema {
         let schema = if self.rng.percent(50) {
             self.tables.true_schema()
         } else {
@@ -44,7 +45,7 @@ impl Build<'_> {
 
     fn ghost_reference(&mut self) -> Schema {
         let (note, name) = (self.some_note(), self.name_text());
-        let eager = self.rng.percent(30);
+        let eager = self.eager(30);
         let schema = self.tables.reference(note, name, eager);
         self.keep_schema(schema)
     }
@@ -242,14 +243,18 @@ impl Build<'_> {
 
     /// A reference whose target fits, is registered later, or is unknown.
     fn reference(&mut self, target: Option<Node>, depth: usize) -> Schema {
-        let name = if self.rng.percent(65) {
+        let known = self.rng.percent(65);
+        let name = if known {
             let schema = self.schema_for(target, depth - 1);
             self.register(schema)
         } else {
             self.name_text()
         };
         let note = self.some_note();
-        let eager = self.rng.percent(50);
+        let eager = match known {
+            true => self.rng.percent(50),
+            false => self.eager(50),
+        };
         let schema = self.tables.reference(note, name, eager);
         self.keep_schema(schema)
     }
@@ -274,7 +279,7 @@ impl Build<'_> {
     }
 
     /// A schema for one item, or an anyOf over all of them.
-    fn items_schema(&mut self, items: &[Node], item: Option<Node>, depth: usize) -> Schema {
+    pub fn items_schema(&mut self, items: &[Node], item: Option<Node>, depth: usize) -> Schema {
         if items.len() < 2 || self.rng.percent(50) {
             return self.schema_for(item, depth - 1);
         }

@@ -139,7 +139,8 @@ impl Build<'_> {
         self.keep_node(node)
     }
 
-    fn object(&mut self, depth: usize) -> Node {
+    /// An object whose values have at most this depth less one.
+    pub fn object(&mut self, depth: usize) -> Node {
         let mut entries: Vec<(Node, Node)> = Vec::new();
         for _ in 0..self.rng.below(6) {
             let key = self.key(&entries);

@@ -2,8 +2,10 @@
 
 use super::{Plant, changed, seen, unseen};
 use crate::case::Request;
-use crate::generate::Stream::{Both, Compile};
+use crate::generate::Stream::{Both, Compile, Edges};
 use crate::run::Outcome;
+use quarto_yaml_model::Model;
+use quarto_yaml_tables::Checker;
 use quarto_yaml_tables::layout::{LINKS, NONE, NOTES, SCHEMAS, Table, note, schema};
 
 pub const PLANTS: &[Plant] = &[
@@ -142,6 +144,70 @@ pub const PLANTS: &[Plant] = &[
             Some(())
         })
     }),
+    unseen("a ragged tail not zeroed", Edges, |_, right| {
+        written(right, |wrong| {
+            let tables = wrong.tables.as_mut()?;
+            let ragged = [NOTES, SCHEMAS]
+                .into_iter()
+                .find(|table| tables.words(*table).len() % table.words != 0)?;
+            *tables.words_mut(ragged).last_mut()? = 7;
+            Some(())
+        })
+    }),
+    unseen("room past the limit not zeroed", Edges, |_, right| {
+        written(right, |wrong| {
+            let tables = wrong.tables.as_mut()?;
+            let over = [NOTES, SCHEMAS, LINKS]
+                .into_iter()
+                .find(|table| tables.count(*table) > table.most)?;
+            tables.words_mut(over)[over.most * over.words] = 7;
+            Some(())
+        })
+    }),
+    unseen("room zeroed after 20 or 21", Edges, |case, right| {
+        changed(right, |wrong| {
+            matches!(wrong.answer.number, 20 | 21).then_some(())?;
+            let Request::Compile { used, .. } = case.request else {
+                return None;
+            };
+            let tables = wrong.tables.as_mut()?;
+            for (table, used) in [NOTES, SCHEMAS, LINKS].into_iter().zip(used) {
+                let start = used as usize * table.words;
+                let words = tables.words_mut(table);
+                words.get_mut(start..).unwrap_or_default().fill(0);
+            }
+            Some(())
+        })
+    }),
+    unseen("used counts cut to what is lent", Edges, |case, right| {
+        changed(right, |wrong| {
+            (wrong.answer.number == 20).then_some(())?;
+            let answer = &mut wrong.answer;
+            let lent = [NOTES, SCHEMAS, LINKS].map(|table| case.tables.count(table) as u32);
+            answer.used_notes = answer.used_notes.min(lent[0]);
+            answer.used_schemas = answer.used_schemas.min(lent[1]);
+            answer.used_links = answer.used_links.min(lent[2]);
+            Some(())
+        })
+    }),
+    unseen("a record past what is lent used", Edges, |case, right| {
+        changed(right, |wrong| {
+            (wrong.answer.number == 33).then_some(())?;
+            let Request::Compile { used, schema } = case.request else {
+                return None;
+            };
+            let mut beyond = case.tables.clone();
+            for (table, used) in [NOTES, SCHEMAS, LINKS].into_iter().zip(used) {
+                let room = used as usize + 20;
+                (room <= table.most).then_some(())?;
+                beyond.words_mut(table).resize(room * table.words, 0);
+            }
+            let answer = Model.compile(&mut beyond, used, schema);
+            (answer.number == 0).then_some(())?;
+            wrong.answer = answer;
+            Some(())
+        })
+    }),
     seen("another answer after compiling", Both, |_, right| {
         changed(right, |wrong| {
             let then = wrong.then.as_mut()?;
@@ -153,6 +219,12 @@ pub const PLANTS: &[Plant] = &[
 
 fn compiled(right: &Outcome, change: impl FnOnce(&mut Outcome) -> Option<()>) -> Option<Outcome> {
     (right.answer.number == 0).then_some(())?;
+    changed(right, change)
+}
+
+/// A change where the call writes, even if it refuses.
+fn written(right: &Outcome, change: impl FnOnce(&mut Outcome) -> Option<()>) -> Option<Outcome> {
+    (!matches!(right.answer.number, 20 | 21)).then_some(())?;
     changed(right, change)
 }
 

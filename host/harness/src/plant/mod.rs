@@ -6,11 +6,13 @@
 
 mod compiles;
 mod navigations;
+mod slips;
 mod validations;
 
 use crate::case::Case;
 use crate::generate::Stream;
 use crate::run::Outcome;
+pub use slips::{SLIPS, Slip};
 
 /// One way of being wrong.
 #[derive(Clone, Copy)]

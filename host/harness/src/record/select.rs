@@ -1,7 +1,7 @@
 //! Which cases are stored.
 
 use crate::case::{Case, Request};
-use crate::generate::{self, Stream};
+use crate::generate::{self, EDGES, Edge, Stream};
 use crate::judge::{Ask, Heard, Judged};
 use crate::rng::Rng;
 use crate::run::Outcome;
@@ -73,7 +73,7 @@ impl Kind {
                 Stream::Standard,
                 Stream::Damaged,
             ],
-            Kind::Compile => &[Stream::Compile, Stream::Compile, Stream::Damaged],
+            Kind::Compile => &[Stream::Compile, Stream::Damaged, Stream::Edges],
         }
     }
 
@@ -84,6 +84,12 @@ impl Kind {
             Kind::Validate => (0..=14).chain(20..=25).collect(),
             Kind::Compile => vec![0, 20, 21, 23, 30, 31, 32, 33],
         }
+    }
+
+    /// The edges that have to be among the calls stored: all that fit.
+    pub fn edges(self) -> BTreeSet<Edge> {
+        let kept = EDGES.into_iter().filter(|edge| !edge.is_large());
+        kept.filter(|_| self == Kind::Compile).collect()
     }
 
     fn holds(self, request: &Request) -> bool {
@@ -98,6 +104,9 @@ impl Kind {
 /// Calls over the same tables.
 const CALLS: usize = 6;
 
+/// Words of stored tables and calls above which compiles are left out: a file is to stay small.
+const LARGEST: usize = 1_500;
+
 /// Cases that are looked at, at most, for an answer number that is missing.
 const SEARCHED: u64 = 200_000;
 
@@ -105,32 +114,43 @@ const SEARCHED: u64 = 200_000;
 pub fn sample(kind: Kind, seed: u64, calls: usize) -> Result<Sample, String> {
     let mut groups = Vec::new();
     let mut missing: BTreeSet<u32> = kind.numbers().into_iter().collect();
+    let mut edges: BTreeSet<Edge> = kind.edges();
     let mut total = 0;
     for index in 0..SEARCHED {
-        if total >= calls && missing.is_empty() {
+        if total >= calls && missing.is_empty() && edges.is_empty() {
             break;
         }
         let streams = kind.streams();
         let stream = streams[index as usize % streams.len()];
-        let case = generate::case(stream, seed, index);
+        let place = match stream {
+            Stream::Edges => index / streams.len() as u64,
+            _ => index,
+        };
+        let case = generate::case(stream, seed, place);
         if !kind.holds(&case.request) {
             continue;
         }
         let group = group(case, &mut Rng::of_case(seed ^ 1, index))?;
+        if kind == Kind::Compile && group.size() > LARGEST {
+            continue;
+        }
+        let edge = (stream == Stream::Edges).then(|| generate::edge(place));
         let numbers = group
             .stored
             .iter()
             .map(|stored| stored.outcome.answer.number);
         let numbers: BTreeSet<u32> = numbers.collect();
-        if total < calls || !numbers.is_disjoint(&missing) {
+        let wanted = edge.is_some_and(|edge| edges.remove(&edge));
+        if total < calls || wanted || !numbers.is_disjoint(&missing) {
             missing.retain(|number| !numbers.contains(number));
             total += group.stored.len();
             groups.push(group);
         }
     }
-    match missing.first() {
-        Some(number) => Err(format!("no case answers {number}")),
-        None => Ok(Sample { kind, seed, groups }),
+    match (missing.first(), edges.first()) {
+        (Some(number), _) => Err(format!("no case answers {number}")),
+        (_, Some(edge)) => Err(format!("no case: {edge}")),
+        _ => Ok(Sample { kind, seed, groups }),
     }
 }
 

@@ -42,6 +42,15 @@ pub fn bytes(words: &[u32]) -> Vec<u8> {
     words.iter().flat_map(|word| word.to_le_bytes()).collect()
 }
 
+impl Group {
+    /// Words that it takes in a file.
+    pub(super) fn size(&self) -> usize {
+        let mut out = Vec::new();
+        write_group(&mut out, self);
+        out.len()
+    }
+}
+
 fn write_group(out: &mut Vec<u32>, group: &Group) {
     write_tables(out, &group.tables);
     out.push(group.stored.len() as u32);
