@@ -1,8 +1,8 @@
 -- The statement for the public calls applied to two schemas of one small table, the flat object and the grouped one: it is not empty.
 -- Assumes nothing.
 use Prim.Native.Nat.{ℕ, _<_}
-use mathlib.Core.Path.{_≡_, refl, sym, subst, _∙_}
-use mathlib.Core.List.{List, _++_}
+use mathlib.Core.Path.{_≡_, refl, sym, subst}
+use mathlib.Core.List.{_++_}
 use native.Mathlib.Omega.{arith}
 use lib.ListN.{replicate}
 use Rattle.error.specs.declared.Mode.the-variants.{Source}
