@@ -9,7 +9,7 @@ use lib.Dec.{ltb}
 use borrow.Author.Tests.{lt-ltb, le-ltb}
 use Rattle.text.specs.Choice.{either, pick}
 use Rattle.error.specs.declared.Mode.{Mode}
-use Rattle.error.specs.Answers.{answerOf, plainAnswer, badTable, refusalOf}
+use Rattle.error.specs.Answers.{answerOf, plainAnswer, refusalOf}
 use Rattle.error.specs.Paths.{Step, instanceBuffer}
 use Rattle.layout.specs.Layout.{Tables, nodeCount, schemaCount}
 use Rattle.tables.specs.declared.check.Fault.{Fault}
@@ -18,7 +18,7 @@ use Rattle.tables.specs.Check.{tablesFault}
 use Rattle.validator.specs.Outcome.{Error, Outcome, accepted, refused, invalid, ended}
 use Rattle.validator.specs.Validate.{levels, instanceWords, schemaStepWords, visitOf, Validated, emptyHanded, answered, checkedFirst, validateOf}
 use Rattle.grouping.specs.Grown.{Tree}
-use Rattle.grouping.specs.Same.{Told, Refusal, Answered, accepts, refuses, invalidates, ends, refusalBy, toldBy, answeredBy}
+use Rattle.grouping.specs.Same.{Refusal, Answered, accepts, refuses, invalidates, ends, refusalBy, answeredBy}
 use Rattle.grouping.specs.Demand.{opened, SameSchema, Comes, SameCall}
 
 -- a call that comes to an answer is a visit

@@ -1,6 +1,6 @@
 -- Each append of a compile keeps the check: a list, an array, an object, and a merged object with its joins. Assumes nothing.
-use Prim.Native.Nat.{ℕ, zero, suc, _+_, _*_, _/_, _<_, _≤_}
-use mathlib.Core.Path.{_≡_, refl, sym, ap, subst, _∙_}
+use Prim.Native.Nat.{ℕ, _+_, _<_, _≤_}
+use mathlib.Core.Path.{_≡_, refl, subst}
 use mathlib.Core.Bool.{Bool, true, false}
 use mathlib.Core.List.{List, [], _∷_, _++_}
 use mathlib.Core.Logic.{_⊎_, inl, inr}
@@ -10,18 +10,18 @@ use lib.ListN.{length, getD, length-append}
 use lib.Dec.{eqb, leb}
 use borrow.Author.Tests.{leb-true}
 use Rattle.text.specs.Choice.{pick}
-use Rattle.text.specs.Text.{textCount, sameText}
-use Rattle.layout.specs.Layout.{Tables, NONE, noteTags, noteCaseDetection, noteCount, schemaCount, schemaWord, schemaKind, schemaNote, arrayMinimum, arrayMaximum, arrayUnique, requiredFirst, requiredCount, objectMinimum, objectMaximum, objectClosed, namingConvention}
-use Rattle.layout.specs.Rows.{noteRow, listRow, arrayRow, objectRow}
+use Rattle.text.specs.Text.{textCount}
+use Rattle.layout.specs.Layout.{Tables, NONE, noteCount, schemaWord, schemaKind, schemaNote, arrayMinimum, arrayMaximum, arrayUnique, requiredFirst, requiredCount, objectMinimum, objectMaximum, objectClosed, namingConvention}
+use Rattle.layout.specs.Rows.{listRow, arrayRow, objectRow}
 use Rattle.rules.specs.declared.records.Counts.{Counts}
 use Rattle.rules.specs.Records.{countsIn, countsOf, noteOk}
 use Rattle.rules.specs.Schemas.{schemaOk}
-use Rattle.tables.proofs.Facts.{Optional, ListIn, ObjectFacts, SchemaFacts, schema-facts}
+use Rattle.tables.proofs.Facts.{Optional, ListIn, SchemaFacts, schema-facts}
 use Rattle.schema.specs.Shape.{Note, Pair, Object}
 use Rattle.schema.specs.Look.{Words}
 use Rattle.merge.specs.Pairs.{flatPairs}
 use Rattle.compilation.specs.Compile.{Result, ok, refuse, then, Room, withNotes, withRow, withLinks, noteWordsOf, addNote, addRow, addLinks, addList, addArray, addObject, joinLinks, joinRow, addMerged}
-use Rattle.grouping.specs.Tree.{Every, nil, one, PerhapsEvery, absents, presents}
+use Rattle.grouping.specs.Tree.{Every, one, PerhapsEvery, absents, presents}
 use Rattle.grouping.specs.Values.{grown}
 use Rattle.grouping.specs.Record.{count}
 use Rattle.grouping.proofs.Compiled.{every-less, ok-same}

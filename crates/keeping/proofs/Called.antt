@@ -1,19 +1,18 @@
 -- A call of `compile` that answers 0: what it started from, and what it leaves. Assumes nothing.
 use Prim.Native.Nat.{ℕ, _*_, _/_, _≤_, _<_}
-use mathlib.Core.Path.{_≡_, refl, sym, ap, subst, _∙_}
+use mathlib.Core.Path.{_≡_, refl, sym, ap, _∙_}
 use mathlib.Core.Bool.{Bool, true, false}
-use mathlib.Core.List.{List, _++_}
 use mathlib.Core.Option.{Option}
 use native.Mathlib.Omega.{arith}
-use lib.ListN.{length, take}
+use lib.ListN.{length}
 use lib.Seq.{length-take-le, take-at}
 use lib.Dec.{leb}
-use borrow.Author.Tests.{leb-true, leb-false}
+use borrow.Author.Tests.{leb-false}
 use Rattle.text.specs.Choice.{pick}
 use Rattle.text.specs.Text.{sameText}
 use Rattle.error.specs.declared.Used.{Used}
 use Rattle.error.specs.Answers.{plainAnswer, foundRecord, withUsed, answerOf}
-use Rattle.layout.specs.Layout.{Tables, NONE, mostNotes, mostSchemas, mostLinks, noteCount, schemaCount}
+use Rattle.layout.specs.Layout.{Tables, mostNotes, mostSchemas, mostLinks, noteCount, schemaCount}
 use Rattle.lookup.specs.declared.Found.{Found}
 use Rattle.lookup.specs.declared.Found.the-variants.{At, Nothing}
 use Rattle.lookup.specs.Lookup.{resolveOf}
@@ -23,17 +22,16 @@ use Rattle.tables.specs.declared.check.Fault.{Fault}
 use Rattle.tables.specs.declared.check.Fault.the-variants.{Sound, Bad}
 use Rattle.tables.specs.Check.{tablesFault}
 use Rattle.schema.specs.Look.{Words, wordsOf}
-use Rattle.compilation.specs.Compile.{Result, ok, refuse, Room, compileAt}
+use Rattle.compilation.specs.Compile.{Result, ok, refuse, compileAt}
 use Rattle.compilation.specs.Entry.{Compiled, usedTables, usedFault, atMost, roomOf, targetOf, compiledOf, keptIn, leave, countsOf, finished, untouched, orFault, compileOf}
-use Rattle.compilation.specs.State.{Source, State, Out}
-use Rattle.compilation.proofs.Grows.{Grown}
+use Rattle.compilation.specs.State.{Source, Out}
 use Rattle.compilation.proofs.Same.{Same, made, stopped}
 use Rattle.compilation.proofs.Used.{used-lent, used-fit, sizes-sound, used-tables-sound}
 use Rattle.compilation.proofs.Bridge.{compiled-same}
 use Rattle.grouping.specs.Values.{grown}
 use Rattle.grouping.specs.Demand.{Limited, compiling}
 use Rattle.keeping.specs.Left.{leftBy}
-use Rattle.keeping.proofs.Numbers.{Says, given, because, compile-says}
+use Rattle.keeping.proofs.Numbers.{Says, because, compile-says}
 
 -- whole records
 pub record Whole (t : Words) : Type 0 where
@@ -86,7 +84,7 @@ module _ (T : Tables) (u : Used) (s : ℕ) where
         let fit = used-lent (length (T .schemas) / 16) mostSchemas (u .schemas) (used-fit T u (sizes-sound T u (d .sound)) .1) in
         omega (arith, d .below, length-take-le (u .schemas * 16) (T .schemas) (omega arith))
 
-    whole : Whole (d .words)
+    pub whole : Whole (d .words)
     whole = whole-grown (compiled-same T u (d .sound) s (d .below)) (d .place) (d .words) (d .is)
 
     pub left-is : leftBy T (compileOf T u s) ≡ grown (usedTables T u) (d .words)

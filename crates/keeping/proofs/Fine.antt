@@ -1,9 +1,8 @@
 -- The objects that a compile merges, as tables that pass the check have them, and what merging makes of them. Assumes nothing.
 use Prim.Native.Nat.{ℕ, _<_, _≤_}
-use mathlib.Core.Path.{_≡_, refl, sym, subst, _∙_}
+use mathlib.Core.Path.{_≡_, refl, subst, _∙_}
 use mathlib.Core.Bool.{Bool, true, false}
 use mathlib.Core.List.{List, [], _∷_}
-use mathlib.Core.Logic.{_⊎_, inl, inr}
 use mathlib.Core.Option.{Option, some, none}
 use native.Mathlib.Omega.{arith}
 use lib.Dec.{eqb, leb}
@@ -18,11 +17,11 @@ use Rattle.schema.specs.Look as words
 use Rattle.schema.specs.Look.{Words, noteAt, optional, detecting, sortNames, sortObject, sortShape, raw, look}
 use Rattle.merge.specs.Merge.{Kept, kept, over, later, withTags, Gathered, start, add, gather}
 use Rattle.compilation.specs.Compile.{objectsCons, objectsOf, looks}
-use Rattle.grouping.specs.Tree.{Every, nil, one, PerhapsEvery, absents, presents, NamesIn, inNone, inDetects, inNamed}
+use Rattle.grouping.specs.Tree.{Every, nil, one, PerhapsEvery, absents, NamesIn, inDetects, inNamed}
 use Rattle.grouping.specs.Values.{grown}
 use Rattle.grouping.specs.Record.{count}
 use Rattle.grouping.proofs.Natural.{append-in, join-in, counting-in}
-use Rattle.grouping.proofs.Compiled.{every-less, every-perhaps, every-names}
+use Rattle.grouping.proofs.Compiled.{every-perhaps, every-names}
 use Rattle.grouping.proofs.WellFormed.{list-every, word-every, word-names}
 use Rattle.keeping.proofs.Rules.{pairs-held}
 use Rattle.keeping.proofs.Growth.{Good, formed}

@@ -1,23 +1,23 @@
 -- Tables that pass the check still pass it when words are appended to tables 3, 4 and 7, where the new records are good and the sizes are
 -- within the limits. Assumes nothing.
-use Prim.Native.Nat.{ℕ, zero, suc, _+_, _*_, _/_, _%_, _<_, _≤_}
+use Prim.Native.Nat.{ℕ, suc, _+_, _*_, _/_, _%_, _<_, _≤_}
 use mathlib.Core.Path.{_≡_, refl, sym, ap, subst, _∙_}
-use mathlib.Core.Bool.{Bool, true, false}
+use mathlib.Core.Bool.{true, false}
 use mathlib.Core.List.{List, _++_}
 use mathlib.Core.Logic.{⊎-elim}
 use native.Mathlib.Omega.{arith}
-use lib.ListN.{length, getD, length-append, List·getD-append}
+use lib.ListN.{length, getD, length-append}
 use lib.Seq.{getD-append-add}
-use lib.Dec.{eqb, leb, ltb}
+use lib.Dec.{ltb}
 use borrow.Author.Tests.{eq-eqb, lt-ltb, le-ltb, le-leb}
 use Rattle.text.specs.Choice.{both-holds, le-or-lt}
-use Rattle.layout.specs.Layout.{Tables, NONE, mostNotes, mostSchemas, mostLinks, nodeKind, nodeA, nodeB, nodeC, noteWord, noteTags, noteCaseDetection, schemaWord, entryText, entrySchema, noteCount, schemaCount, entryCount}
+use Rattle.layout.specs.Layout.{Tables, mostNotes, mostSchemas, mostLinks, nodeKind, nodeA, nodeB, nodeC, noteWord, schemaWord, entryText, entrySchema, noteCount, schemaCount, entryCount}
 use Rattle.rules.specs.declared.records.Counts.{Counts}
 use Rattle.rules.specs.Records.{countsIn, countsOf, noteOk, nodeOk, entryOk, patternOk}
 use Rattle.rules.specs.Schemas.{schemaOk}
 use Rattle.tables.specs.declared.check.Fault.{Fault}
 use Rattle.tables.specs.declared.check.Fault.the-variants.{Sound, Bad}
-use Rattle.tables.specs.Check.{wholeSize, sizeOr, sizesFault, recordCount, recordOk, firstBad, recordsFrom, recordsFault, orElse, lentFault, tablesFault}
+use Rattle.tables.specs.Check.{wholeSize, sizesFault, recordCount, recordOk, firstBad, recordsFrom, recordsFault, orElse, lentFault, tablesFault}
 use Rattle.tables.specs.Facts.{WellFormed}
 use Rattle.tables.proofs.Facts.{well-formed, entry-facts}
 use Rattle.schema.specs.Look.{Words}
@@ -33,9 +33,13 @@ use Rattle.keeping.proofs.Rules.{first-made, node-longer, schema-kept}
 never : {A : Type 0} {t n : ℕ} → Bad t n ≡ Sound → A
 never h = let z : _≡_ {A = ℕ} 0 1 = cc in absurd (omega arith)
 
-sizes-first : (a b : Fault) → orElse a b ≡ Sound → a ≡ Sound
+pub sizes-first : (a b : Fault) → orElse a b ≡ Sound → a ≡ Sound
 sizes-first Sound b h = refl
 sizes-first (Bad t n) b h = never h
+
+pub records-second : (a b : Fault) → orElse a b ≡ Sound → b ≡ Sound
+records-second Sound b h = h
+records-second (Bad t n) b h = never h
 
 -- good sizes and good records pass
 module _ (X : Tables) where

@@ -1,6 +1,6 @@
 -- A compile keeps the check: where the used tables pass it, so do the used tables that the compile leaves. Assumes nothing.
 use Prim.Native.Nat.{ℕ, zero, suc, _<_, _≤_}
-use mathlib.Core.Path.{_≡_, refl, sym, ap, subst, _∙_}
+use mathlib.Core.Path.{_≡_, refl, sym, subst, _∙_}
 use mathlib.Core.Bool.{Bool, true, false}
 use mathlib.Core.List.{List, [], _∷_}
 use mathlib.Core.Logic.{_⊎_, inl, inr}
@@ -15,14 +15,13 @@ use Rattle.layout.specs.Layout.{Tables, NONE, schemaCount, schemaWord, schemaKi
 use Rattle.tables.specs.declared.check.Fault.the-variants.{Sound}
 use Rattle.tables.specs.Check.{tablesFault}
 use Rattle.tables.proofs.Facts.{Optional, present as below-limit, SchemaFacts, schema-facts}
-use Rattle.schema.specs.Shape.{Note, Pair, Own, Object, Shape, plain, anyOf, allOf, array, object, ref}
-use Rattle.schema.specs.Look as words
-use Rattle.schema.specs.Look.{Words, wordsOf, slice, detecting, sortObject, raw, look, bases}
+use Rattle.schema.specs.Shape.{Pair, Object, Shape, plain, anyOf, allOf, array, object, ref}
+use Rattle.schema.specs.Look.{Words, wordsOf, look, bases}
 use Rattle.merge.specs.Merge.{Gathered, start, gather, noteOf, derive}
 use Rattle.validator.specs.Validate.{findIn, levels}
-use Rattle.compilation.specs.Compile.{Result, ok, refuse, then, Room, objectsOf, looks, addList, addArray, addObject, each, eachPair, optionally, mergeFrom, eagerly, compileShape, compileAt}
+use Rattle.compilation.specs.Compile.{Result, ok, then, Room, objectsOf, looks, addList, addArray, addObject, each, eachPair, optionally, mergeFrom, eagerly, compileShape, compileAt}
 use Rattle.compilation.specs.Entry.{usedTables, roomOf, compileOf}
-use Rattle.grouping.specs.Tree.{Every, nil, one, EveryPair, nilPair, onePair, Perhaps, absent, present, PerhapsEvery, absents, presents}
+use Rattle.grouping.specs.Tree.{Every, nil, one, EveryPair, nilPair, onePair, Perhaps, absent, present, PerhapsEvery, presents}
 use Rattle.grouping.specs.Values.{grown}
 use Rattle.grouping.specs.Record.{count}
 use Rattle.grouping.specs.Demand.{compiling}

@@ -7,3 +7,4 @@ pub mod Lots
 pub mod Adds
 pub mod Fine
 pub mod Keeps
+pub mod Again

@@ -1,6 +1,6 @@
 -- No refusal of a compile has the number 0. Assumes nothing.
 use Prim.Native.Nat.{ℕ, zero, suc, _+_}
-use mathlib.Core.Path.{_≡_, refl}
+use mathlib.Core.Path.{_≡_}
 use mathlib.Core.Bool.{Bool, true, false}
 use mathlib.Core.List.{List, [], _∷_}
 use mathlib.Core.Option.{Option, some, none}
@@ -13,6 +13,7 @@ use Rattle.schema.specs.Shape.{Note, Pair, Object, Shape, plain, anyOf, allOf, 
 use Rattle.schema.specs.Look.{Words, look, bases}
 use Rattle.compilation.specs.Compile.{Result, ok, refuse, then, Room, objectsOf, looks, addNote, addRow, addLinks, addList, addArray, addObject, joinLinks, joinRow, addMerged, each, eachPair, optionally, mergeFrom, eagerly, compileShape, compileAt}
 
+-- a value, or a refusal by a number other than 0
 pub data Says {A : Type 0} : Result A → Type 0 where
   given : (a : A) (t : Words) → Says (ok a t)
   because : (n : ℕ) → (n ≡ 0 → ⊥) → Says (refuse n)

@@ -4,21 +4,21 @@ use Prim.Native.Nat.{ℕ, zero, suc, _+_, _*_, _-_, _<_, _≤_}
 use mathlib.Core.Path.{_≡_, refl, sym, ap, _∙_}
 use mathlib.Core.Bool.{Bool, true, false, not}
 use mathlib.Core.List.{List}
-use mathlib.Core.Logic.{_⊎_, inl, inr, ⊎-elim}
+use mathlib.Core.Logic.{_⊎_, inl, inr}
 use native.Mathlib.Omega.{arith}
 use lib.ListN.{length, getD}
 use lib.Dec.{eqb, leb, ltb}
-use borrow.Author.Tests.{eq-eqb, lt-ltb, le-ltb, le-leb}
+use borrow.Author.Tests.{eq-eqb, lt-ltb, le-leb}
 use Rattle.text.specs.Choice.{pick, both, either, both-holds, both-left, both-right, either-left, either-right, same-test, not-holds}
 use Rattle.text.specs.Text.{sameText}
 use Rattle.text.proofs.Bytes.{same-text-sound}
-use Rattle.layout.specs.Layout.{NONE, schemaWord, schemaKind, schemaNote, arrayUnique, pairKey, pairValue, listFirst, listCount, propertiesFirst, propertiesCount, patternPropertiesFirst, patternPropertiesCount, additionalProperties, requiredFirst, requiredCount, objectClosed, propertyNames, basesFirst, basesCount}
+use Rattle.layout.specs.Layout.{NONE, schemaWord, schemaKind, schemaNote, pairKey, pairValue, listFirst, listCount, propertiesFirst, propertiesCount, patternPropertiesFirst, patternPropertiesCount, additionalProperties, requiredFirst, requiredCount, objectClosed, propertyNames, basesFirst, basesCount}
 use Rattle.layout.specs.Rows.{listRow, arrayRow, objectRow}
 use Rattle.layout.specs.Walk.{every, first}
 use Rattle.layout.proofs.Walk.{every-more, first-more, first-end}
 use Rattle.rules.specs.declared.records.Counts.{Counts}
 use Rattle.rules.specs.Lists.{optionalBelow, linkBelow, listBelow, pairOk, keysDiffer, keyIsNew, keysDistinct, pairsBelow, pairsOk}
-use Rattle.rules.specs.Records.{plainNodeOk, booleanNodeOk, placeNodeOk, realNodeOk, listNodeOk, nodeRule}
+use Rattle.rules.specs.Records.{listNodeOk, nodeRule}
 use Rattle.rules.specs.Schemas.{unusedAt, unusedFrom, schemaNoteOk, trueOk, numberOk, stringOk, listOk, arrayOk, basesOk, objectPairsOk, objectWordsOk, objectOk, refOk, schemaRule, schemaOk}
 use Rattle.rules.proofs.Walked.{every-none, every-at}
 use Rattle.tables.proofs.Facts.{Optional, optional, ListIn, list-in, PairsIn, pairs-in}

@@ -12,9 +12,13 @@ use Rattle.grouping.specs.Values.{grown}
 abbrev pub Compiles : Tables → Used → ℕ → Type 0
 Compiles T u s = compileOf T u s .answer .number ≡ 0
 
--- the tables lent, with the three that were written; of these the records that the answer calls used
+-- the tables lent, with the three that were written
+abbrev pub lentAfter : Tables → Compiled → Tables
+lentAfter T c = grown T (record { notes = c .notes; schemas = c .schemas; links = c .links })
+
+-- of these the records that the answer calls used
 unfoldable pub leftBy : Tables → Compiled → Tables
-leftBy T c = usedTables (grown T (record { notes = c .notes; schemas = c .schemas; links = c .links })) (c .answer .used)
+leftBy T c = usedTables (lentAfter T c) (c .answer .used)
 
 -- a call of `validate` on these tables, with the schema record that was answered and buffers of i and k words
 abbrev pub validateWith : Tables → Compiled → Mode → ℕ → ℕ → ℕ → Validated
