@@ -1,12 +1,49 @@
 -- One key, one name and one pattern answer, from the words that were read. Assumes nothing.
-use mathlib.Core.Path.{_≡_}
-use mathlib.Core.Bool.{Bool, true, false}
+use mathlib.Core.Path.{_≡_, sym, ap, _∙_}
+use mathlib.Core.Bool.{Bool, true, false, true≢false, not}
 use mathlib.Core.List.{List}
-use Prim.Native.Nat.{ℕ}
-use borrow.Author.Tests.{eq-eqb, ne-eqb}
-use Rattle.text.specs.Text.{sameText}
+use mathlib.Core.Logic.{⊎-elim}
+use Prim.Native.Nat.{ℕ, _<_}
+use native.Mathlib.Omega.{arith}
+use lib.ListN.{length}
+use lib.Dec.{eqb, ltb}
+use borrow.Author.Tests.{eq-eqb, ne-eqb, ltb-true, lt-ltb, le-ltb}
+use Rattle.text.specs.Choice.{true-or-false, both-left, both-right}
+use Rattle.text.specs.Text.{textLength, textFits, textOf, sameBytes, sameText}
+use Rattle.text.proofs.Bytes.{same-no-length}
+use Rattle.text.proofs.Texts.{text-long, text-out}
 use Rattle.layout.specs.Layout.{nodeKind, nodeA, pairKey, entryText, patternText, subjectText}
-use Rattle.lookup.specs.Lookup.{keyIs, pairHasKey, entryIsNamed, answersPattern}
+use Rattle.lookup.specs.Lookup.{otherLength, keyIs, pairHasKey, entryIsNamed, answersPattern}
+
+not-equal : (a b : ℕ) → not (eqb a b) ≡ true → a ≡ b → ⊥
+not-equal a b t e = true≢false (sym t ∙ ap not (eq-eqb a b e))
+
+module _ (texts : List ℕ) (t n : ℕ) where
+  pub length-compared : {len : ℕ} → len ≡ textLength texts t → 0 < n → not (eqb len n) ≡ otherLength texts t n
+  unfolding otherLength
+  length-compared e h = rw (← e, lt-ltb 0 n h)
+
+  pub length-free : (0 < n → ⊥) → false ≡ otherLength texts t n
+  unfolding otherLength
+  length-free h = rw (le-ltb 0 n (omega arith))
+
+-- a text of another length has other bytes: it is as long as its record says, or empty
+pub other-bytes : (pool texts bytes : List ℕ) (t : ℕ) → otherLength texts t (length bytes) ≡ true → sameBytes (textOf pool texts t) bytes ≡ false
+unfolding otherLength
+other-bytes pool texts bytes t o =
+    let some : 0 < length bytes = ltb-true 0 (length bytes) (both-left (ltb 0 (length bytes)) (not (eqb (textLength texts t) (length bytes))) o) in
+    let other = not-equal (textLength texts t) (length bytes) (both-right (ltb 0 (length bytes)) (not (eqb (textLength texts t) (length bytes))) o) in
+    same-no-length (textOf pool texts t) bytes
+    (λ e. ⊎-elim (λ f. other (sym (text-long pool texts t f) ∙ e)) (λ f. let z = sym (ap length (text-out pool texts t f)) ∙ e in omega arith) (true-or-false (textFits pool texts t)))
+
+module _ (pool texts : List ℕ) (t text : ℕ) {bytes : List ℕ} (hand : bytes ≡ textOf pool texts text) {r : Bool} where
+  pub text-other : r ≡ otherLength texts t (length bytes) → r ≡ true → false ≡ sameText pool texts t text
+  unfolding sameText
+  text-other o h = sym (ap (sameBytes (textOf pool texts t)) (sym hand) ∙ other-bytes pool texts bytes t (sym o ∙ h))
+
+  pub text-compared : {a : List ℕ} → a ≡ textOf pool texts t → r ≡ sameBytes a bytes → r ≡ sameText pool texts t text
+  unfolding sameText
+  text-compared e h = h ∙ ap (λ (l : List ℕ). sameBytes l bytes) e ∙ ap (sameBytes (textOf pool texts t)) hand
 
 module _ (pool texts : List ℕ) where
   module _ (nodes : List ℕ) (text key : ℕ) {kind : ℕ} (read : kind ≡ nodeKind nodes key) where

@@ -1,14 +1,18 @@
 -- What is found by a text: an object's entry, a property, a registry entry, a pattern's answer. Texts are compared by bytes. Assumes nothing.
 use Prim.Native.Nat.{ℕ, _+_}
 use mathlib.Core.List.{List}
-use mathlib.Core.Bool.{Bool}
+use mathlib.Core.Bool.{Bool, not}
 use lib.ListN.{getD}
-use lib.Dec.{eqb}
+use lib.Dec.{eqb, ltb}
 use Rattle.text.specs.Choice.{both}
-use Rattle.text.specs.Text.{sameText}
+use Rattle.text.specs.Text.{textLength, sameText}
 use Rattle.layout.specs.Layout.{nodeKind, nodeA, nodeB, pairKey, pairValue, entryText, entrySchema, entryCount, patternText, subjectText, patternAnswer, patternCount}
 use Rattle.lookup.specs.declared.Found.{Found}
 use Rattle.lookup.specs.Find.{lastBelow, firstFrom, foundAt}
+
+-- by its record alone, text t does not have the n bytes, of which there is one at least
+unfoldable pub otherLength : List ℕ → ℕ → ℕ → Bool
+otherLength texts t n = both (ltb 0 n) (not (eqb (textLength texts t) n))
 
 -- a node is a string with these bytes
 unfoldable pub keyIs : List ℕ → List ℕ → List ℕ → ℕ → ℕ → Bool

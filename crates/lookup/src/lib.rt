@@ -2,6 +2,7 @@
 ghost use mathlib.Core.Path.{_≡_};
 ghost use Rattle.text.specs.Text.{textOf, sameBytes, sameText};
 ghost use Rattle.lookup.specs.Lookup.{
+  otherLength,
   keyIs,
   entryKey,
   entryValue,
@@ -37,6 +38,16 @@ fn same_from_end(a: &[u8], b: &[u8]) -> bool
     text::same(a, b)
 }
 
+// Whether the record of text t rules out n bytes; a record that runs off gives the empty text, whatever it says.
+fn other_length(texts: &[u32], t: u32, n: usize) -> bool
+    ensures { λ r. ⌜ r ≡ otherLength (now (texts .entry)) t n ⌝ }
+{
+    if 0 < n {
+        return text::text_length(texts, t as usize) != n;
+    }
+    false
+}
+
 // Whether text t has the bytes of that text, which are at hand.
 pub fn is_text(pool: &[u8], texts: &[u32], t: u32, text: u32, bytes: &[u8]) -> bool
     requires { ⌜ now bytes ≡ textOf (now pool) (now texts) text ⌝ }
@@ -44,6 +55,9 @@ pub fn is_text(pool: &[u8], texts: &[u32], t: u32, text: u32, bytes: &[u8]) -> b
 {
     if t == text {
         return true;
+    }
+    if other_length(texts, t, bytes.len()) {
+        return false;
     }
     same_from_end(text::text(pool, texts, t), bytes)
 }

@@ -2,7 +2,7 @@
 
 use crate::layout::{self, NONE, Table};
 use crate::{Answer, Checker, Node, RawTables, Schema, TableError, Text};
-use std::collections::HashSet;
+use std::collections::{HashMap, HashSet};
 
 /// The eight tables, filled record by record.
 ///
@@ -13,6 +13,8 @@ use std::collections::HashSet;
 #[derive(Clone, Debug, Default)]
 pub struct Tables {
     pub(crate) raw: RawTables,
+    /// The first number of each text.
+    by_text: HashMap<String, Text>,
 }
 
 /// What the host's regex engine says of a pattern and a subject.
@@ -42,15 +44,27 @@ impl Tables {
         self.raw
     }
 
-    /// Adds a text. Equal texts may stand under several numbers.
+    /// A text's number; the text is added where it does not stand yet.
+    ///
+    /// So the limits count different texts, and equal texts are equal by number.
     pub fn text(&mut self, text: &str) -> Result<Text, TableError> {
+        match self.by_text.get(text) {
+            Some(&number) => Ok(number),
+            None => self.text_again(text),
+        }
+    }
+
+    /// Adds a text under a number of its own, even where it stands already.
+    pub fn text_again(&mut self, text: &str) -> Result<Text, TableError> {
         let start = self.raw.pool.len();
         if start + text.len() > layout::POOL_BYTES {
             return Err(TableError::PoolFull);
         }
         let record = self.append(layout::TEXTS, &[start as u32, text.len() as u32])?;
         self.raw.pool.extend_from_slice(text.as_bytes());
-        Ok(Text(record))
+        let number = Text(record);
+        self.by_text.entry(text.to_owned()).or_insert(number);
+        Ok(number)
     }
 
     /// A text's bytes.

@@ -11,12 +11,26 @@ fn texts_are_parts_of_the_pool() -> Result<(), TableError> {
     let mut tables = Tables::new();
     let first = tables.text("é")?;
     let empty = tables.text("")?;
-    let same = tables.text("é")?;
+    let again = tables.text_again("é")?;
     assert_eq!(tables.bytes(first), "é".as_bytes());
     assert_eq!(tables.bytes(empty), b"");
+    assert_eq!(tables.bytes(again), "é".as_bytes());
     assert_eq!(tables.raw().texts, [0, 2, 2, 0, 2, 2]);
-    assert_ne!(first, same);
+    assert_ne!(first, again);
     assert_eq!(tables.raw().text(NONE), b"");
+    Ok(())
+}
+
+#[test]
+fn a_text_that_stands_already_keeps_its_number() -> Result<(), TableError> {
+    let mut tables = Tables::new();
+    let first = tables.text_again("a")?;
+    let second = tables.text_again("a")?;
+    let other = tables.text("b")?;
+    assert_eq!([tables.text("a")?, tables.text("b")?], [first, other]);
+    assert_ne!(first, second);
+    assert_eq!(tables.raw().pool, b"aab");
+    assert_eq!(tables.raw().texts, [0, 1, 1, 1, 2, 1]);
     Ok(())
 }
 
@@ -121,7 +135,7 @@ fn what_is_not_there_is_refused() -> Result<(), TableError> {
 fn keys_of_a_list_differ_in_bytes() -> Result<(), TableError> {
     let mut tables = Tables::new();
     let first = tables.text("a")?;
-    let second = tables.text("a")?;
+    let second = tables.text_again("a")?;
     let schema = tables.true_schema()?;
     let rules = ObjectRules {
         properties: vec![(first, schema), (second, schema)],
@@ -162,12 +176,13 @@ fn the_word_for_absent_is_no_value() -> Result<(), TableError> {
 fn limits_are_kept() -> Result<(), TableError> {
     let mut tables = Tables::new();
     let long = "x".repeat(layout::POOL_BYTES);
-    tables.text(&long)?;
+    let whole = tables.text(&long)?;
     assert_eq!(tables.text("y"), Err(TableError::PoolFull));
     for _ in 1..layout::TEXTS.most {
-        tables.text("")?;
+        tables.text_again("")?;
     }
-    assert_eq!(tables.text(""), Err(TableError::TooMany { table: 1 }));
+    assert_eq!(tables.text_again(""), Err(TableError::TooMany { table: 1 }));
+    assert_eq!(tables.text(&long), Ok(whole));
     let node = tables.null()?;
     tables.array(&vec![node; layout::LINKS.most])?;
     assert_eq!(tables.array(&[node]), Err(TableError::TooMany { table: 7 }));

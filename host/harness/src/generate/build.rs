@@ -74,7 +74,7 @@ impl<'r> Build<'r> {
         for text in order.iter().take(count) {
             let times = if self.rng.percent(30) { 2 } else { 1 };
             for _ in 0..times {
-                texts.push(fits(self.tables.text(text)));
+                texts.push(fits(self.tables.text_again(text)));
             }
         }
         texts
