@@ -11,6 +11,7 @@ use Rattle.text.specs.Choice.{either, pick}
 use Rattle.error.specs.declared.Mode.{Mode}
 use Rattle.error.specs.Answers.{answerOf, plainAnswer, refusalOf}
 use Rattle.error.specs.Paths.{Step, instanceBuffer}
+use Rattle.error.proofs.Paths.{kinds-back}
 use Rattle.layout.specs.Layout.{Tables, nodeCount, schemaCount}
 use Rattle.tables.specs.declared.check.Fault.{Fault}
 use Rattle.tables.specs.declared.check.Fault.the-variants.{Sound, Bad}
@@ -18,7 +19,7 @@ use Rattle.tables.specs.Check.{tablesFault}
 use Rattle.validator.specs.Outcome.{Error, Outcome, accepted, refused, invalid, ended}
 use Rattle.validator.specs.Validate.{levels, instanceWords, schemaStepWords, visitOf, Validated, emptyHanded, answered, checkedFirst, validateOf}
 use Rattle.grouping.specs.Grown.{Tree}
-use Rattle.grouping.specs.Same.{Refusal, Answered, accepts, refuses, invalidates, ends, refusalBy, answeredBy}
+use Rattle.grouping.specs.Same.{withoutAll, Refusal, Answered, accepts, refuses, invalidates, ends, refusalBy, answeredBy}
 use Rattle.grouping.specs.Demand.{opened, SameSchema, Comes, SameCall}
 
 -- a call that comes to an answer is a visit
@@ -85,15 +86,17 @@ module _ (T T′ : Tables) (i k : ℕ) where
     detail = ap (λ (x : Refusal Tree). x .detail) h;
     steps = ap (λ (x : Refusal Tree). length (x .steps)) h;
     instance = ap (λ (x : Refusal Tree). instanceBuffer (x .steps) i) h;
+    path = ap withoutAll (kinds-back (e .kinds) k) ∙ (ap (λ (x : Refusal Tree). x .kinds) h ∙ sym (ap withoutAll (kinds-back (e′ .kinds) k)));
+    schema = λ p q. ap (λ (x : Refusal Tree). x .schema) h;
   }
 
   same-invalid : (p p′ : List Step) → p ≡ p′ → SameCall T T′ (answered (invalid p) i k) (answered (invalid p′) i k)
   unfolding refusalOf
-  same-invalid p p′ h = record { number = refl; node = refl; hint = refl; detail = refl; steps = ap (λ (x : List Step). length x) h; instance = ap (λ (x : List Step). instanceBuffer x i) h }
+  same-invalid p p′ h = record { number = refl; node = refl; hint = refl; detail = refl; steps = ap (λ (x : List Step). length x) h; instance = ap (λ (x : List Step). instanceBuffer x i) h; path = refl; schema = λ p q. absurd (p refl) }
 
   same-plain : (n n′ : ℕ) → n ≡ n′ → SameCall T T′ (emptyHanded (plainAnswer n) i k) (emptyHanded (plainAnswer n′) i k)
   unfolding answerOf
-  same-plain n n′ h = record { number = h; node = refl; hint = refl; detail = refl; steps = refl; instance = refl }
+  same-plain n n′ h = record { number = h; node = refl; hint = refl; detail = refl; steps = refl; instance = refl; path = refl; schema = λ p q. absurd (p refl) }
 
   same-outcomes : (o o′ : Outcome) → answeredBy (opened T) o ≡ answeredBy (opened T′) o′ → SameCall T T′ (answered o i k) (answered o′ i k)
   unfolding answeredBy refusalOr stepsOr endOr

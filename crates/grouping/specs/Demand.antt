@@ -2,16 +2,17 @@
 -- check meets the depth limit every value gets the same answer". Assumes nothing.
 use Prim.Native.Nat.{ℕ, _≤_}
 use mathlib.Core.Path.{_≡_}
+use lib.ListN.{take}
 use Rattle.text.specs.Text.{sameText}
 use Rattle.error.specs.declared.Mode.{Mode}
-use Rattle.layout.specs.Layout.{Tables, mostNotes, mostSchemas}
+use Rattle.layout.specs.Layout.{Tables, NONE, mostNotes, mostSchemas}
 use Rattle.schema.specs.Look.{wordsOf, look}
 use Rattle.validator.specs.Outcome.{ended}
 use Rattle.validator.specs.Validate.{levels, findIn, visitOf, Validated}
 use Rattle.compilation.specs.Compile.{Result, Room, compileAt}
 use Rattle.grouping.specs.Tree.{whole, view}
 use Rattle.grouping.specs.Grown.{Tree, trees}
-use Rattle.grouping.specs.Same.{toldBy, answeredBy}
+use Rattle.grouping.specs.Same.{withoutAll, toldBy, answeredBy}
 
 -- what schema record s stands for, nested joins opened: in additional an allOf, in names an anyOf, without note, is replaced by its parts,
 -- again and again; the bases of uncompiled objects are left out
@@ -44,7 +45,8 @@ pub record Comes (v : Validated) : Type 0 where
   pub buffers : v .answer .number ≡ 22 → ⊥
   pub depth : v .answer .number ≡ 23 → ⊥
 
--- the same number, node, hint, detail and instance path
+-- the same number, node, hint, detail and instance path; the same schema path once its allOf steps are taken out; schema records that stand
+-- for the same tree
 pub record SameCall (T T′ : Tables) (v v′ : Validated) : Type 0 where
   pub number : v .answer .number ≡ v′ .answer .number
   pub node : v .answer .node ≡ v′ .answer .node
@@ -52,3 +54,5 @@ pub record SameCall (T T′ : Tables) (v v′ : Validated) : Type 0 where
   pub detail : toldBy (opened T) (v .answer .detail) ≡ toldBy (opened T′) (v′ .answer .detail)
   pub steps : v .answer .steps ≡ v′ .answer .steps
   pub instance : v .instance ≡ v′ .instance
+  pub path : withoutAll (take (v .answer .kinds) (v .schema)) ≡ withoutAll (take (v′ .answer .kinds) (v′ .schema))
+  pub schema : (v .answer .schema ≡ NONE → ⊥) → (v′ .answer .schema ≡ NONE → ⊥) → opened T (v .answer .schema) ≡ opened T′ (v′ .answer .schema)
