@@ -17,10 +17,10 @@ use Rattle.build.specs.Meets.{Each}
 use Rattle.error.specs.declared.Used.{Used}
 use Rattle.derive.specs.declared.Made.{Made}
 use Rattle.build.specs.declared.Many.{Many}
-use Rattle.build.specs.Chase.{isFresh, num, next, chaseAt, weaveAt, topAt}
-use Rattle.build.specs.declared.Lead.{Lead}
-use Rattle.build.specs.declared.Lead.the-variants.{Leaf, Refuse, Node}
-use Rattle.build.proofs.Weave.{next-most, span-length}
+use Rattle.put.specs.Chase.{isFresh, num, next, chaseAt, weaveAt, topAt}
+use Rattle.put.specs.declared.Lead.{Lead}
+use Rattle.put.specs.declared.Lead.the-variants.{Leaf, Refuse, Node}
+use Rattle.put.proofs.Weave.{next-most, span-length}
 use Rattle.build.proofs.Build.{leaf-sane, outs-many, outs-stop, refused-built}
 
 -- the stack holds all the numbers, or one is a leaf

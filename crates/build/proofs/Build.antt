@@ -13,21 +13,22 @@ use borrow.Author.Tests.{eq-eqb, ne-eqb, leb-false}
 use Rattle.text.specs.Choice.{pick}
 use Rattle.layout.specs.Layout.{schemaWord}
 use Rattle.lookup.specs.Lookup.{resolveOf}
-use Rattle.compilation.specs.State.{Source, State, Out, done, refused, Outs, many, stop, sourceOf, stateOf, addSchema}
+use Rattle.compilation.specs.State.{Source, State, Out, done, refused, Outs, many, stop, sourceOf, stateOf}
 use Rattle.derive.specs.Meets.{outOf, Ready, Ran, Built, Finished}
-use Rattle.build.specs.Meets.{outsOf, One, Each, Perhaps, Listed}
-use Rattle.build.specs.Chase.{chaseIn, chaseAt, isFresh, num, next, weaveAt, topAt}
+use Rattle.put.specs.Meets.{Listed}
+use Rattle.build.specs.Meets.{outsOf, One, Each, Perhaps}
+use Rattle.put.specs.Chase.{chaseIn, chaseAt, isFresh, num, next, weaveAt, topAt}
 use Rattle.compilation.specs.Table.{isEager, isBuilt, onFound, field, span, after, eachOver, groupAt, arrayAt, optional, nodeAt, compileAt}
 use Rattle.error.specs.declared.Used.{Used}
 use Rattle.derive.specs.declared.Made.{Made}
 use Rattle.build.specs.declared.Many.{Many}
 use Rattle.lookup.specs.declared.Found.{Found}
 use Rattle.lookup.specs.declared.Found.the-variants.{At, Nothing}
-use Rattle.build.specs.declared.Lead.{Lead}
-use Rattle.build.specs.declared.Lead.the-variants.{Leaf, Refuse, Node}
-use Rattle.append.proofs.Laws.{room-limit}
+use Rattle.put.specs.declared.Lead.{Lead}
+use Rattle.put.specs.declared.Lead.the-variants.{Leaf, Refuse, Node}
 pub use Rattle.derive.proofs.Build.{out-done, out-refused, ran-none, source-same, links-done, links-full, refused-built, built-is}
-use Rattle.build.proofs.Weave.{span-snoc, span-length, weave-length, weave-snoc, weave-kept, top-snoc, part-same, next-least}
+pub use Rattle.put.proofs.Laid.{finish-built, listed-small}
+use Rattle.put.proofs.Weave.{span-snoc, span-length, weave-length, weave-snoc, weave-kept, top-snoc, part-same, next-least}
 
 -- answers
 pub outs-many : (r : Many) (N S L ns : List ℕ) → r .no ≡ 0 → outsOf r N S L ns ≡ many (stateOf (r .used) N S L) ns
@@ -254,28 +255,7 @@ going-end C₀ C below b used u st₀ N S L X₀ X at step count sp i q top g h 
       low = λ _. g .ready .top;
     }
 
--- a record appended after what ran
-module _ (P T R : List ℕ) (b u v : Used) (N S S′ L L′ : List ℕ) (w : List ℕ) (r : Made) (f : Finished S S′ v w r) where
-  finish-ran : (C : Source) (X X′ : List ℕ) (sp : ℕ) → Ready b u X sp → Ran C (sourceOf P T R b N S L′) u v X X′ sp → Ran C (sourceOf P T R b N S′ L′) u (r .used) X X′ sp
-  finish-ran C X X′ sp rd ran =
-      record {
-        source = source-same P T R b v N N S S′ L′ L′ (omega (arith, rd .notes, ran .notes)) (omega (arith, rd .schemas, ran .schemas)) (omega (arith, rd .links, ran .links)) refl (f .kept) refl refl (f .long) refl ∙ ran .source;
-        stack = ran .stack;
-        notes = omega (arith, ran .notes, f .notes);
-        schemas = omega (arith, ran .schemas, f .least);
-        links = omega (arith, ran .links, f .links);
-        most = f .most (ran .most);
-      }
-
-  pub finish-built : (o : Out) (C : Source) (X X′ : List ℕ) (sp : ℕ) → Ready b u X sp → Ran C (sourceOf P T R b N S L′) u v X X′ sp → o ≡ addSchema C (stateOf v N S L′) w → Built o C (sourceOf P T R b N S′ L′) u N S′ L′ X X′ sp r
-  finish-built o C X X′ sp rd ran e =
-      record {
-        answer = f .answer C N L′ (ap (λ (D : Source). D .schemas-lent) (sym (ran .source))) ∙ sym e;
-        ran = finish-ran C X X′ sp rd ran;
-        fresh = f .fresh;
-        rise = λ z. omega (arith, f .rise z, ran .schemas);
-      }
-
+-- anyOf and allOf
 module _ (P T R : List ℕ) (b u : Used) (N S L X X′ : List ℕ) (sp : ℕ) (C : Source) (below s first count : ℕ) (st : State) (m : Many) (ea : Each C (sourceOf P T R b N S L) below st (span (C .links) first 1 count) u N S L X X′ sp m) (rd : Ready b u X sp) (e2 : first ≡ field C s 2) (e3 : count ≡ field C s 3) where
   abbrev numbers : List ℕ
   numbers = weaveAt (chaseAt C below) (span (C .links) first 1 count) X′ sp
@@ -401,6 +381,3 @@ perhaps-one u N S L X X′ sp C C′ level s st r h o =
       answer = o .answer ∙ rw (ne-eqb s 4294967295 h);
       ran = o .ran;
     }
-
-pub listed-small : (L L′ : List ℕ) (ul count : ℕ) (new : List ℕ) (r : Bool) → Listed L L′ ul count new r → r ≡ true → ul + count ≤ 16384
-listed-small L L′ ul count new r h e = room-limit 16384 (length L) ul count (sym (h .yes) ∙ e)

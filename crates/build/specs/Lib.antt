@@ -1,2 +1,1 @@
-pub mod Chase
 pub mod Meets

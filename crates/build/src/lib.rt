@@ -1,20 +1,19 @@
 // Compiling, once the tables are sound: eager references resolved, bases merged. The source is read below the used counts at entry,
 // what is built is appended. The functions call each other; `below` counts the levels that are left.
-mod numbers;
-mod put;
-
 ghost use mathlib.Core.Path.{_≡_};
-ghost use lib.ListN.{take};
+ghost use lib.ListN.{set, take};
+ghost use Rattle.text.specs.Choice.{pick};
 ghost use Rattle.merge.specs.Pairs.{span};
 ghost use Rattle.compilation.specs.State.{sourceOf, stateOf};
 ghost use Rattle.compilation.specs.Table.{compileAt, groupAt, arrayAt, nodeAt, optional, derivedAt, plainAt};
 ghost use Rattle.derive.specs.Meets.{Ready, Built};
-ghost use Rattle.build.specs.Meets.{One, Each, Perhaps, EachReady};
+ghost use Rattle.put.specs.Chase.{next};
+ghost use Rattle.build.specs.Meets.{One, Each, Perhaps, Pushable, EachReady};
 use derive::Made;
 use derive::finish;
 use derive::merge_object_schemas;
-use derive::objects;
 use error::Used;
+use inherit::objects;
 use layout::schema::ADDITIONAL;
 use layout::schema::ARRAY_MAXIMUM;
 use layout::schema::ARRAY_MINIMUM;
@@ -30,8 +29,11 @@ use layout::schema::UNIQUE;
 use layout::words::NONE;
 use merge::field;
 use merge::word;
-use numbers::chase;
-use numbers::push;
+use put::Lead;
+use put::PATTERN_COUNT;
+use put::PROPERTY_COUNT;
+use put::chase;
+use put::is_plain;
 use put::put_list;
 use put::put_object;
 
@@ -40,22 +42,11 @@ const LIST_COUNT: u32 = LIST + 1;
 
 const BASES_COUNT: u32 = BASES + 1;
 
-pub const PROPERTY_COUNT: u32 = PROPERTIES + 1;
-
-pub const PATTERN_COUNT: u32 = PATTERN_PROPERTIES + 1;
-
 // What children became: the used counts and the stack's top; or the number of the refusal.
 pub struct Many {
     pub no: u32,
     pub used: Used,
     pub top: u32,
-}
-
-// Where a schema leads: a record that is its own answer, a refusal, or a record to build with so many levels left below it.
-pub enum Lead {
-    Leaf(u32),
-    Refuse(u32),
-    Node(u32, u32),
 }
 
 // One schema: a leaf is its own answer, a reference is followed, the others are built.
@@ -144,8 +135,7 @@ fn node(
         );
     }
     if kind == 10 {
-        let bases = field(schemas, us, s, BASES);
-        if bases == NONE {
+        if is_plain(schemas, us, s) {
             return plain(
                 pool,
                 texts,
@@ -190,6 +180,19 @@ fn node(
         used,
         sp,
     )
+}
+
+// Puts a new record's number on the stack.
+fn push(stack: &mut [u32], top: u32, fresh: bool, n: u32) -> u32
+    requires { ⌜ Pushable fresh top (now stack) ⌝ }
+    ensures { λ r. ⌜ (r ≡ next fresh top) × (now (stack .exit) ≡ pick fresh (set (now (stack .entry)) top n) (now (stack .entry))) ⌝ }
+{
+    if fresh {
+        let i = top as usize;
+        stack[i] = n;
+        return top + 1;
+    }
+    top
 }
 
 // Children in order. The numbers of those that are built stay on the stack.

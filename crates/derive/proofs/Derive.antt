@@ -22,9 +22,10 @@ use Rattle.joins.specs.declared.Lists.{Lists}
 use Rattle.joins.specs.Joins.{offerOf, offeredOf, keepOne, joined, tallyOne, tally, noOffers, joinWords, closedOf, pairWords, requiredWords, Linked}
 use Rattle.compilation.specs.State.{Source, State, done, andThen, sourceOf, stateOf, addSchema, addLinks, addNote}
 use Rattle.compilation.specs.Table.{field, mergedNote, mergedNoteIn, mergedPairs, requiredAt, offersAt, joinLinksAt, joinRowAt, mergeAt}
-use Rattle.derive.specs.Meets.{Ready, Ran, Built, Carried, Rowed, joinRow, rowsOf, wordsOf, usedAfter, Fits, RowsReady}
+use Rattle.inherit.specs.Carried.{Carried}
+use Rattle.derive.specs.Meets.{Ready, Ran, Built, Rowed, joinRow, rowsOf, wordsOf, usedAfter, Fits, RowsReady}
 use Rattle.derive.specs.declared.Made.{Made}
-use Rattle.derive.specs.declared.Scalars.{Scalars}
+use Rattle.inherit.specs.declared.Scalars.{Scalars}
 use Rattle.derive.proofs.Build.{source-same, links-done, links-full, note-done, note-full, refused-built}
 use Rattle.derive.proofs.Rows.{rows-built}
 

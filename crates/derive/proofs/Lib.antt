@@ -1,4 +1,3 @@
-pub mod Steps
 pub mod Build
 pub mod Rows
 pub mod Derive

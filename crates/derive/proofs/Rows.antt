@@ -15,7 +15,7 @@ use Rattle.compilation.specs.State.{Source, State, Out, andThen, sourceOf, stat
 use Rattle.compilation.specs.Table.{joinRowAt}
 use Rattle.derive.specs.Meets.{Ready, Ran, Built, Finished, Rows, Rowed, joinRow, rowsOf}
 use Rattle.derive.specs.declared.Made.{Made}
-use Rattle.derive.specs.declared.Scalars.{Scalars}
+use Rattle.inherit.specs.declared.Scalars.{Scalars}
 use Rattle.derive.proofs.Build.{out-done, out-refused, part-same, source-same}
 
 -- a record appended is the simplest case

@@ -6,16 +6,14 @@ use mathlib.Core.List.{List}
 use lib.ListN.{length, take}
 use lib.Dec.{eqb}
 use Rattle.text.specs.Choice.{pick}
-use Rattle.layout.specs.Layout.{schemaWord}
 use Rattle.layout.specs.Rows.{objectRow}
 use Rattle.error.specs.declared.Used.{Used}
 use Rattle.joins.specs.declared.Offers.{Offers}
 use Rattle.joins.specs.declared.Lists.{Lists}
-use Rattle.joins.specs.Joins.{closedOf}
 use Rattle.compilation.specs.State.{Source, State, Out, done, refused, andThen, stateOf, addSchema}
 use Rattle.compilation.specs.Table.{joinRowAt}
 use Rattle.derive.specs.declared.Made.{Made}
-use Rattle.derive.specs.declared.Scalars.{Scalars}
+use Rattle.inherit.specs.declared.Scalars.{Scalars}
 
 -- what an answer of the code says, with what the tables then hold
 unfoldable pub outOf : Made → List ℕ → List ℕ → List ℕ → Out
@@ -56,13 +54,6 @@ pub record Finished (S S′ : List ℕ) (u : Used) (w : List ℕ) (r : Made) : T
   pub least : u .schemas ≤ r .used .schemas
   pub rise : r .no ≡ 0 → u .schemas < r .used .schemas
   pub most : u .schemas ≤ 4096 → r .used .schemas ≤ 4096
-
--- of a derived record s of S₀ whose bases bs stand in S
-pub record Carried (S₀ : List ℕ) (s : ℕ) (S bs : List ℕ) (k : Scalars) : Type 0 where
-  pub minimum : k .minimum ≡ schemaWord S₀ s 9
-  pub maximum : k .maximum ≡ schemaWord S₀ s 10
-  pub closed : k .closed ≡ closedOf S (eqb (schemaWord S₀ s 11) 1) bs
-  pub naming : k .naming ≡ schemaWord S₀ s 13
 
 -- records appended or none: o says which, over the source and the state
 pub record Rows (S S′ : List ℕ) (u : Used) (o : Source → State → Out) (r : Made) : Type 0 where

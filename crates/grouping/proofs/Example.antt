@@ -12,8 +12,8 @@ use Rattle.text.specs.Utf8.{leadOf, stepOf, utf8Of}
 use Rattle.error.specs.declared.Mode.the-variants as mode
 use Rattle.layout.specs.Layout.{Tables, NONE, nodeCount, noteCount, schemaCount, entryCount, patternCount, nodeWord, noteWord, schemaWord, pairKey, pairValue, entrySchema, registryWord}
 use Rattle.layout.specs.Walk.{every, first}
-use Rattle.rules.specs.Lists.{optionalBelow, linkBelow, listBelow, pairOk, keysDiffer, keyIsNew, keysDistinct, pairsBelow, pairsOk}
-use Rattle.rules.specs.Records.{countsIn, textOk, plainNodeOk, placeNodeOk, listNodeOk, nodeRule, nodeOk, noteOk, entryOk, patternOk}
+use Rattle.lists.specs.Lists.{optionalBelow, linkBelow, listBelow, pairOk, keysDiffer, keyIsNew, keysDistinct, pairsBelow, pairsOk}
+use Rattle.records.specs.Records.{countsIn, textOk, plainNodeOk, placeNodeOk, listNodeOk, nodeRule, nodeOk, noteOk, entryOk, patternOk}
 use Rattle.rules.specs.Schemas.{unusedAt, unusedFrom, schemaNoteOk, basesOk, objectPairsOk, objectWordsOk, objectOk, stringOk, arrayOk, refOk, schemaRule, schemaOk}
 use Rattle.tables.specs.declared.check.Fault.the-variants.{Sound}
 use Rattle.tables.specs.Check.{wholeSize, sizeOr, textsSize, sizesFault, recordCount, recordOk, firstBad, recordsFrom, recordsFault, lentFault, tablesFault}

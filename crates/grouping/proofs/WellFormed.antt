@@ -20,11 +20,11 @@ use Rattle.judge.specs.Judge.{toOption}
 use Rattle.validator.specs.Validate.{findIn}
 use Rattle.text.proofs.Texts.{past-end}
 use Rattle.grouping.specs.Values.{SameValues}
-use Rattle.rules.specs.declared.records.Counts.{Counts}
-use Rattle.rules.specs.Records.{countsOf}
+use Rattle.records.specs.declared.Counts.{Counts}
+use Rattle.records.specs.Records.{countsOf}
 use Rattle.rules.specs.Schemas.{unusedAt, unusedFrom, trueOk, numberOk, stringOk, listOk, arrayOk, objectOk, refOk, schemaNoteOk, schemaRule, schemaOk}
-use Rattle.rules.specs.Lists.{optionalBelow, listBelow}
-use Rattle.rules.proofs.Walked.{every-at}
+use Rattle.lists.specs.Lists.{optionalBelow, listBelow}
+use Rattle.lists.proofs.Walked.{every-at}
 use Rattle.tables.specs.declared.check.Fault.{Fault}
 use Rattle.tables.specs.declared.check.Fault.the-variants.{Sound, Bad}
 use Rattle.tables.specs.Check.{wholeSize, sizeOr, sizesFault, recordsFault, orElse, lentFault, tablesFault}

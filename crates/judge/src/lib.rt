@@ -1,7 +1,5 @@
 // What a schema's own words say of a node: everything in a visit that visits nothing.
-pub mod array;
 pub mod numeric;
-pub mod object;
 pub mod string;
 
 ghost use mathlib.Core.Path.{_≡_};

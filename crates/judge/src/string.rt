@@ -13,7 +13,7 @@ use layout::words::NONE;
 use lookup::Found;
 
 // A text's length: bytes in source mode, code points in standard mode.
-fn length_in(mode: Mode, pool: &[u8], texts: &[u32], t: u32) -> u32
+pub fn length_in(mode: Mode, pool: &[u8], texts: &[u32], t: u32) -> u32
     ensures { λ r. ⌜ r ≡ lengthIn mode (textOf (now (pool .entry)) (now (texts .entry)) t) ⌝ }
 {
     let bytes = text::text(pool, texts, t);

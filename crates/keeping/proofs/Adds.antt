@@ -13,8 +13,8 @@ use Rattle.text.specs.Choice.{pick}
 use Rattle.text.specs.Text.{textCount}
 use Rattle.layout.specs.Layout.{Tables, NONE, noteCount, schemaWord, schemaKind, schemaNote, arrayMinimum, arrayMaximum, arrayUnique, requiredFirst, requiredCount, objectMinimum, objectMaximum, objectClosed, namingConvention}
 use Rattle.layout.specs.Rows.{listRow, arrayRow, objectRow}
-use Rattle.rules.specs.declared.records.Counts.{Counts}
-use Rattle.rules.specs.Records.{countsIn, countsOf, noteOk}
+use Rattle.records.specs.declared.Counts.{Counts}
+use Rattle.records.specs.Records.{countsIn, countsOf, noteOk}
 use Rattle.rules.specs.Schemas.{schemaOk}
 use Rattle.tables.proofs.Facts.{Optional, ListIn, SchemaFacts, schema-facts}
 use Rattle.schema.specs.Shape.{Note, Pair, Object}

@@ -10,7 +10,7 @@ use borrow.Author.Tests.{eqb-true, eqb-false}
 use Rattle.text.specs.Choice.{pick}
 use Rattle.text.specs.Text.{textCount, sameText}
 use Rattle.layout.specs.Layout.{Tables, NONE, noteCount, schemaKind, schemaNote, arrayItems, propertiesFirst, propertiesCount, patternPropertiesFirst, patternPropertiesCount, additionalProperties, propertyNames, refText, refEager}
-use Rattle.rules.specs.Records.{noteOk}
+use Rattle.records.specs.Records.{noteOk}
 use Rattle.tables.proofs.Facts.{Optional, present as below-limit, ObjectFacts, SchemaFacts, schema-facts}
 use Rattle.schema.specs.Shape.{Note, Own, Names, nameless, detects, named, Object, Shape, plain, anyOf, allOf, array, object, ref}
 use Rattle.schema.specs.Look as words

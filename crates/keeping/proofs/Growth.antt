@@ -12,8 +12,8 @@ use lib.Dec.{ltb}
 use borrow.Author.Tests.{eq-eqb, lt-ltb, le-ltb, le-leb}
 use Rattle.text.specs.Choice.{both-holds, le-or-lt}
 use Rattle.layout.specs.Layout.{Tables, mostNotes, mostSchemas, mostLinks, nodeKind, nodeA, nodeB, nodeC, noteWord, schemaWord, entryText, entrySchema, noteCount, schemaCount, entryCount}
-use Rattle.rules.specs.declared.records.Counts.{Counts}
-use Rattle.rules.specs.Records.{countsIn, countsOf, noteOk, nodeOk, entryOk, patternOk}
+use Rattle.records.specs.declared.Counts.{Counts}
+use Rattle.records.specs.Records.{countsIn, countsOf, noteOk, nodeOk, entryOk, patternOk}
 use Rattle.rules.specs.Schemas.{schemaOk}
 use Rattle.tables.specs.declared.check.Fault.{Fault}
 use Rattle.tables.specs.declared.check.Fault.the-variants.{Sound, Bad}

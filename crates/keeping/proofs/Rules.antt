@@ -16,11 +16,11 @@ use Rattle.layout.specs.Layout.{NONE, schemaWord, schemaKind, schemaNote, pairK
 use Rattle.layout.specs.Rows.{listRow, arrayRow, objectRow}
 use Rattle.layout.specs.Walk.{every, first}
 use Rattle.layout.proofs.Walk.{every-more, first-more, first-end}
-use Rattle.rules.specs.declared.records.Counts.{Counts}
-use Rattle.rules.specs.Lists.{optionalBelow, linkBelow, listBelow, pairOk, keysDiffer, keyIsNew, keysDistinct, pairsBelow, pairsOk}
-use Rattle.rules.specs.Records.{listNodeOk, nodeRule}
+use Rattle.records.specs.declared.Counts.{Counts}
+use Rattle.lists.specs.Lists.{optionalBelow, linkBelow, listBelow, pairOk, keysDiffer, keyIsNew, keysDistinct, pairsBelow, pairsOk}
+use Rattle.records.specs.Records.{listNodeOk, nodeRule}
 use Rattle.rules.specs.Schemas.{unusedAt, unusedFrom, schemaNoteOk, trueOk, numberOk, stringOk, listOk, arrayOk, basesOk, objectPairsOk, objectWordsOk, objectOk, refOk, schemaRule, schemaOk}
-use Rattle.rules.proofs.Walked.{every-none, every-at}
+use Rattle.lists.proofs.Walked.{every-none, every-at}
 use Rattle.tables.proofs.Facts.{Optional, optional, ListIn, list-in, PairsIn, pairs-in}
 use Rattle.compilation.proofs.Grows.{Begins}
 

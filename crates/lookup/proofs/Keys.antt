@@ -12,8 +12,10 @@ use Rattle.text.specs.Choice.{true-or-false, both-left, both-right}
 use Rattle.text.specs.Text.{textLength, textFits, textOf, sameBytes, sameText}
 use Rattle.text.proofs.Bytes.{same-no-length}
 use Rattle.text.proofs.Texts.{text-long, text-out}
-use Rattle.layout.specs.Layout.{nodeKind, nodeA, pairKey, entryText, patternText, subjectText}
-use Rattle.lookup.specs.Lookup.{otherLength, keyIs, pairHasKey, entryIsNamed, answersPattern}
+use Rattle.layout.specs.Layout.{nodeKind, nodeA, pairKey, pairValue, entryText, patternText, subjectText}
+use Rattle.lookup.specs.declared.Found.{Found}
+use Rattle.lookup.specs.declared.Found.the-variants.{At, Nothing}
+use Rattle.lookup.specs.Lookup.{otherLength, keyIs, pairHasKey, propertyPlace, propertyOf, entryIsNamed, answersPattern}
 
 not-equal : (a b : ℕ) → not (eqb a b) ≡ true → a ≡ b → ⊥
 not-equal a b t e = true≢false (sym t ∙ ap not (eq-eqb a b e))
@@ -72,3 +74,13 @@ module _ (pool texts : List ℕ) where
     pub pattern-other : sameText pool texts p pattern ≡ false → false ≡ answersPattern pool texts patterns pattern subject i
     unfolding answersPattern
     pattern-other t = rw (← read, t)
+
+-- a property's schema, from its place
+module _ (pool texts links : List ℕ) (first count text : ℕ) {f : Found} (e : f ≡ propertyPlace pool texts links first count text) where
+  pub place-value : {k v : ℕ} → f ≡ At k → v ≡ pairValue links first k → At v ≡ propertyOf pool texts links first count text
+  unfolding propertyOf
+  place-value h q = rw (sym e ∙ h, q)
+
+  pub place-none : f ≡ Nothing → Nothing ≡ propertyOf pool texts links first count text
+  unfolding propertyOf
+  place-none h = rw (sym e ∙ h)

@@ -41,10 +41,13 @@ lastEntry pool texts nodes links n text = lastBelow (entryHasKey pool texts node
 unfoldable pub pairHasKey : List ℕ → List ℕ → List ℕ → ℕ → ℕ → ℕ → Bool
 pairHasKey pool texts links first text k = sameText pool texts (pairKey links first k) text
 
--- the schema of a property: keys of one list differ, so there is one at most
+-- a property of that name: keys of one list differ, so there is one at most
+abbrev pub propertyPlace : List ℕ → List ℕ → List ℕ → ℕ → ℕ → ℕ → Found
+propertyPlace pool texts links first count text = firstFrom (pairHasKey pool texts links first text) 0 count
+
+-- its schema
 unfoldable pub propertyOf : List ℕ → List ℕ → List ℕ → ℕ → ℕ → ℕ → Found
-propertyOf pool texts links first count text =
-    foundAt (pairValue links first) (firstFrom (pairHasKey pool texts links first text) 0 count)
+propertyOf pool texts links first count text = foundAt (pairValue links first) (propertyPlace pool texts links first count text)
 
 -- registry entry i has that name
 unfoldable pub entryIsNamed : List ℕ → List ℕ → List ℕ → ℕ → ℕ → Bool

@@ -9,6 +9,7 @@ ghost use Rattle.lookup.specs.Lookup.{
   itemNode,
   entryHasKey,
   lastEntry,
+  propertyPlace,
   propertyOf,
   resolveOf,
   answersPattern,
@@ -156,8 +157,8 @@ pub fn last_entry(
     last_with(pool, texts, nodes, links, n, text, bytes)
 }
 
-// The schema of a property of that name, whose bytes are at hand.
-fn property_with(
+// The place of the pair with that key, whose bytes are at hand.
+fn place_with(
     pool: &[u8],
     texts: &[u32],
     links: &[u32],
@@ -167,16 +168,31 @@ fn property_with(
     bytes: &[u8],
 ) -> Found
     requires { ⌜ now bytes ≡ textOf (now pool) (now texts) text ⌝ }
-    ensures { λ r. ⌜ r ≡ propertyOf (now (pool .entry)) (now (texts .entry)) (now (links .entry)) first count text ⌝ }
+    ensures { λ r. ⌜ r ≡ propertyPlace (now (pool .entry)) (now (texts .entry)) (now (links .entry)) first count text ⌝ }
 {
     let mut k = 0;
     while k < count {
         if is_text(pool, texts, links::pair_key(links, first, k), text, bytes) {
-            return Found::At(links::pair_value(links, first, k));
+            return Found::At(k);
         }
         k += 1;
     }
     Found::Nothing
+}
+
+// The place of a property of that name.
+pub fn property_place(
+    pool: &[u8],
+    texts: &[u32],
+    links: &[u32],
+    first: u32,
+    count: u32,
+    text: u32,
+) -> Found
+    ensures { λ r. ⌜ r ≡ propertyPlace (now (pool .entry)) (now (texts .entry)) (now (links .entry)) first count text ⌝ }
+{
+    let bytes = text::text(pool, texts, text);
+    place_with(pool, texts, links, first, count, text, bytes)
 }
 
 // The schema of a property of that name.
@@ -190,8 +206,10 @@ pub fn property(
 ) -> Found
     ensures { λ r. ⌜ r ≡ propertyOf (now (pool .entry)) (now (texts .entry)) (now (links .entry)) first count text ⌝ }
 {
-    let bytes = text::text(pool, texts, text);
-    property_with(pool, texts, links, first, count, text, bytes)
+    match property_place(pool, texts, links, first, count, text) {
+        Found::At(k) => Found::At(links::pair_value(links, first, k)),
+        Found::Nothing => Found::Nothing,
+    }
 }
 
 // The schema of the last registry entry of that name.

@@ -1,4 +1,6 @@
 // The words of stored files, and the tables of a group, unpacked. A read past the end gives 0, a write past it nothing.
+ghost use mathlib.Core.Path.{_≡_};
+ghost use Rattle.replay.specs.Stored.{placeAfter, wordBehind, numberOf};
 
 const IN: i32 = 0;
 
@@ -39,23 +41,31 @@ pub struct Group {
 }
 
 // The place so many words further on; no file is so long that the sum is not taken.
-pub fn after(at: usize, count: u32) -> usize {
+pub fn after(at: usize, count: u32) -> usize
+    ensures { λ r. ⌜ r ≡ placeAfter at count ⌝ }
+{
     if at <= 4294967296 {
         return at + count as usize;
     }
     at
 }
 
-pub fn word(input: &[u32], at: usize, k: u32) -> u32 {
+pub fn word(input: &[u32], at: usize, k: u32) -> u32
+    ensures { λ r. ⌜ r ≡ wordBehind (now (input .entry)) at k ⌝ }
+{
     text::word(input, after(at, k))
 }
 
-fn pair(low: u32, high: u32) -> u64 {
+fn pair(low: u32, high: u32) -> u64
+    ensures { λ r. ⌜ r ≡ numberOf low high ⌝ }
+{
     high as u64 * 4294967296 + low as u64
 }
 
 // Two words as one number.
-pub fn number(input: &[u32], at: usize) -> u64 {
+pub fn number(input: &[u32], at: usize) -> u64
+    ensures { λ r. ⌜ r ≡ numberOf (wordBehind (now (input .entry)) at 0) (wordBehind (now (input .entry)) at 1) ⌝ }
+{
     pair(word(input, at, 0), word(input, at, 1))
 }
 

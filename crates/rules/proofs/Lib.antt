@@ -1,3 +1,2 @@
-pub mod Walked
-pub mod Below
 pub mod Rules
+mod Parts

@@ -1,26 +1,16 @@
--- The two cases of a note, of a bases list and of an unused word; an object's two lists of pairs. Assumes nothing.
+-- The two cases of a bases list and of an unused word; an object's two lists of pairs. Assumes nothing.
 use mathlib.Core.Path.{_≡_, refl}
 use mathlib.Core.Bool.{Bool, true, false}
 use mathlib.Core.List.{List}
 use Prim.Native.Nat.{ℕ}
 use borrow.Author.Tests.{eq-eqb, ne-eqb}
-use lib.Dec.{eqb, leb}
+use lib.Dec.{eqb}
 use Rattle.text.specs.Choice.{both}
-use Rattle.layout.specs.Layout.{NONE, schemaWords, noteTags, noteCaseDetection, schemaWord, propertiesFirst, propertiesCount, patternPropertiesFirst, patternPropertiesCount, basesFirst, basesCount}
+use Rattle.layout.specs.Layout.{NONE, schemaWords, schemaWord, propertiesFirst, propertiesCount, patternPropertiesFirst, patternPropertiesCount, basesFirst, basesCount}
 use Rattle.layout.specs.Walk.{every}
-use Rattle.rules.specs.declared.records.Counts.{Counts}
-use Rattle.rules.specs.Lists.{listBelow, pairsOk}
-use Rattle.rules.specs.Records.{noteOk}
+use Rattle.records.specs.declared.Counts.{Counts}
+use Rattle.lists.specs.Lists.{listBelow, pairsOk}
 use Rattle.rules.specs.Schemas.{unusedAt, unusedFrom, basesOk, objectPairsOk}
-
-module _ (notes : List ℕ) (n : ℕ) where
-  pub untagged : noteTags notes n ≡ NONE → noteOk notes n ≡ eqb (noteCaseDetection notes n) 0
-  unfolding noteOk
-  untagged h = rw (eq-eqb (noteTags notes n) NONE h)
-
-  pub tagged : (noteTags notes n ≡ NONE → ⊥) → noteOk notes n ≡ leb (noteCaseDetection notes n) 1
-  unfolding noteOk
-  tagged h = rw (ne-eqb (noteTags notes n) NONE h)
 
 module _ (schemas : List ℕ) (s : ℕ) where
   pub unused-yes : (k : ℕ) → schemaWord schemas s k ≡ 0 → unusedAt schemas s k ≡ true

@@ -1,3 +1,2 @@
-pub mod Lists
-pub mod Records
 pub mod Schemas
+pub mod Parts

@@ -4,10 +4,10 @@ use mathlib.Core.List.{List}
 use mathlib.Core.Bool.{Bool, true, false}
 use lib.Dec.{leb, ltb, eqb}
 use Rattle.text.specs.Choice.{both, either, pick}
-use Rattle.rules.specs.declared.records.Counts.{Counts}
+use Rattle.records.specs.declared.Counts.{Counts}
 use Rattle.layout.specs.Layout.{NONE, schemaWords, schemaWord, schemaKind, schemaNote, numberMinimum, numberMaximum, numberExclusiveMinimum, numberExclusiveMaximum, numberMultiple, stringPattern, listFirst, listCount, arrayItems, arrayUnique, propertiesFirst, propertiesCount, patternPropertiesFirst, patternPropertiesCount, additionalProperties, requiredFirst, requiredCount, objectClosed, propertyNames, basesFirst, basesCount, refText, refEager}
 use Rattle.layout.specs.Walk.{every}
-use Rattle.rules.specs.Lists.{optionalBelow, listBelow, pairsOk}
+use Rattle.lists.specs.Lists.{optionalBelow, listBelow, pairsOk}
 
 -- words a kind does not use are 0
 unfoldable pub unusedAt : List ℕ → ℕ → ℕ → Bool

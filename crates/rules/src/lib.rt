@@ -1,4 +1,2 @@
-// When a record of each table is good.
-pub mod lists;
-pub mod records;
+// When a schema record is good.
 pub mod schemas;

@@ -1,5 +1,6 @@
 // When a record of table 4 is good, kind by kind.
 ghost use mathlib.Core.Path.{_≡_};
+ghost use Rattle.rules.specs.Parts.{isList, listLimit, plainRule};
 ghost use Rattle.rules.specs.Schemas.{
   unusedFrom,
   schemaNoteOk,
@@ -16,15 +17,15 @@ ghost use Rattle.rules.specs.Schemas.{
   schemaRule,
   schemaOk,
 };
-use crate::lists::both;
-use crate::lists::either;
-use crate::lists::list_below;
-use crate::lists::optional_below;
-use crate::lists::pairs_ok;
-use crate::records::Counts;
 use layout::schema;
 use layout::words::NONE;
 use layout::words::SCHEMA_WORDS;
+use lists::both;
+use lists::either;
+use lists::list_below;
+use lists::optional_below;
+use lists::pairs_ok;
+use records::Counts;
 
 // Whether the words from k on are 0.
 fn unused_from(schemas: &[u32], s: u32, k: u32) -> bool
@@ -207,6 +208,36 @@ fn ref_ok(z: Counts, schemas: &[u32], s: u32) -> bool
     )
 }
 
+fn is_list(kind: u32) -> bool
+    ensures { λ r. ⌜ r ≡ isList kind ⌝ }
+{
+    either(kind == 5, either(kind == 7, kind == 8))
+}
+
+// An enum lists nodes, anyOf and allOf earlier schemas.
+fn list_limit(z: Counts, s: u32, kind: u32) -> usize
+    ensures { λ r. ⌜ r ≡ listLimit z s kind ⌝ }
+{
+    if kind == 5 { z.nodes } else { s as usize }
+}
+
+// The kinds whose words name no list.
+fn plain_rule(z: Counts, schemas: &[u32], s: u32, kind: u32) -> bool
+    ensures { λ r. ⌜ r ≡ plainRule z (now (schemas .entry)) s kind ⌝ }
+{
+    match kind {
+        0 => true_ok(schemas, s),
+        1 => unused_from(schemas, s, 2),
+        2 => number_ok(z, schemas, s),
+        3 => string_ok(z, schemas, s),
+        4 => unused_from(schemas, s, 2),
+        6 => unused_from(schemas, s, 2),
+        9 => array_ok(schemas, s),
+        11 => ref_ok(z, schemas, s),
+        _ => false,
+    }
+}
+
 fn schema_rule(
     z: Counts,
     pool: &[u8],
@@ -218,21 +249,13 @@ fn schema_rule(
 ) -> bool
     ensures { λ r. ⌜ r ≡ schemaRule z (now (pool .entry)) (now (texts .entry)) (now (links .entry)) (now (schemas .entry)) s kind ⌝ }
 {
-    match kind {
-        0 => true_ok(schemas, s),
-        1 => unused_from(schemas, s, 2),
-        2 => number_ok(z, schemas, s),
-        3 => string_ok(z, schemas, s),
-        4 => unused_from(schemas, s, 2),
-        5 => list_ok(links, schemas, s, z.nodes),
-        6 => unused_from(schemas, s, 2),
-        7 => list_ok(links, schemas, s, s as usize),
-        8 => list_ok(links, schemas, s, s as usize),
-        9 => array_ok(schemas, s),
-        10 => object_ok(z, pool, texts, links, schemas, s),
-        11 => ref_ok(z, schemas, s),
-        _ => false,
+    if is_list(kind) {
+        return list_ok(links, schemas, s, list_limit(z, s, kind));
     }
+    if kind == 10 {
+        return object_ok(z, pool, texts, links, schemas, s);
+    }
+    plain_rule(z, schemas, s, kind)
 }
 
 pub fn schema_ok(
@@ -245,9 +268,8 @@ pub fn schema_ok(
 ) -> bool
     ensures { λ r. ⌜ r ≡ schemaOk z (now (pool .entry)) (now (texts .entry)) (now (links .entry)) (now (schemas .entry)) s ⌝ }
 {
-    both(
-        schema_note_ok(z, schemas, s),
-        schema_rule(
+    if schema_note_ok(z, schemas, s) {
+        return schema_rule(
             z,
             pool,
             texts,
@@ -255,6 +277,7 @@ pub fn schema_ok(
             schemas,
             s,
             schema::schema_kind(schemas, s),
-        ),
-    )
+        );
+    }
+    false
 }

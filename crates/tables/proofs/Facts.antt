@@ -16,14 +16,15 @@ use Rattle.layout.specs.Layout.{Tables, NONE, nodeKind, nodeA, nodeB, nodeC, pa
 use Rattle.layout.specs.Walk.{every, first}
 use Rattle.tables.specs.declared.check.Fault.{Fault}
 use Rattle.tables.specs.declared.check.Fault.the-variants.{Sound, Bad}
-use Rattle.rules.specs.declared.records.Counts.{Counts}
-use Rattle.rules.specs.Lists.{optionalBelow, linkBelow, listBelow, pairOk, keysDiffer, keyIsNew, keysDistinct, pairsBelow, pairsOk}
-use Rattle.rules.specs.Records.{countsIn, countsOf, noteOk, plainNodeOk, booleanNodeOk, placeNodeOk, realNodeOk, listNodeOk, nodeRule, nodeOk, entryOk, patternOk}
+use Rattle.records.specs.declared.Counts.{Counts}
+use Rattle.lists.specs.Lists.{optionalBelow, linkBelow, listBelow, pairOk, keysDiffer, keyIsNew, keysDistinct, pairsBelow, pairsOk}
+use Rattle.records.specs.Records.{countsIn, countsOf, noteOk, plainNodeOk, booleanNodeOk, placeNodeOk, realNodeOk, listNodeOk, nodeRule, nodeOk, entryOk, patternOk}
 use Rattle.rules.specs.Schemas.{unusedFrom, schemaNoteOk, trueOk, numberOk, stringOk, listOk, arrayOk, basesOk, objectPairsOk, objectWordsOk, objectOk, refOk, schemaRule, schemaOk}
 use Rattle.tables.specs.Check.{recordCount, recordOk, firstBad, recordsFrom, recordsFault, orElse, lentFault, tablesFault}
 use Rattle.tables.specs.Facts.{Sized, WellFormed}
-use Rattle.rules.proofs.Walked.{every-at, first-at}
-use Rattle.rules.proofs.Rules.{untagged, tagged, bases-absent, bases-listed}
+use Rattle.lists.proofs.Walked.{every-at, first-at}
+use Rattle.records.proofs.Cases.{untagged, tagged}
+use Rattle.rules.proofs.Rules.{bases-absent, bases-listed}
 use Rattle.tables.proofs.Faults.{sizes-sound}
 
 never : {A : Type 0} {t n : ℕ} → Bad t n ≡ Sound → A

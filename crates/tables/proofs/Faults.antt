@@ -1,23 +1,23 @@
 -- The check as a whole: sizes, then the first bad record of the first bad table. Assumes nothing.
-use mathlib.Core.Path.{_≡_, refl, sym, ap, _∙_}
+use mathlib.Core.Path.{_≡_, refl, _∙_}
 use mathlib.Core.Bool.{Bool, true, false}
 use mathlib.Core.List.{List}
-use Prim.Native.Nat.{ℕ, zero, suc, _+_, _-_, _/_, _%_, _<_, _≤_}
-use native.Mathlib.Numerals.{add-one}
+use Prim.Native.Nat.{ℕ, _/_, _%_, _≤_}
 use native.Mathlib.Omega.{arith}
-use borrow.Author.Tests.{lt-ltb, le-ltb, leb-true}
+use borrow.Author.Tests.{leb-true}
 use lib.ListN.{length}
-use lib.Dec.{eqb, leb, ltb}
-use Rattle.text.specs.Choice.{clash, both-left, both-right, pick-all}
+use lib.Dec.{eqb, leb}
+use Rattle.text.specs.Choice.{both-left, both-right}
 use Rattle.text.specs.Text.{textWords, textCount}
 use Rattle.layout.specs.Layout.{Tables, tables, NONE, nodeWords, noteWords, schemaWords, registryWords, patternWords, mostBytes, mostTexts, mostNodes, mostNotes, mostSchemas, mostEntries, mostPatterns, mostLinks, mostNumbers, nodeCount, noteCount, schemaCount, entryCount, patternCount}
-use Rattle.layout.specs.Walk.{first}
 use Rattle.tables.specs.declared.check.Fault.{Fault}
 use Rattle.tables.specs.declared.check.Fault.the-variants.{Sound, Bad}
-use Rattle.rules.specs.declared.records.Counts.{Counts}
-use Rattle.rules.specs.Records.{countsOf}
+use Rattle.records.specs.declared.Counts.{Counts}
+use Rattle.records.specs.Records.{countsOf, textOk, nodeOk, noteOk, entryOk, patternOk}
+use Rattle.rules.specs.Schemas.{schemaOk}
 use Rattle.tables.specs.Check.{wholeSize, sizeOr, textsSize, sizesFault, recordCount, recordOk, firstBad, recordsFrom, recordsFault, orElse, lentFault, tablesFault}
 use Rattle.tables.specs.Facts.{Sized}
+use Rattle.tables.specs.Found.{badOr}
 
 -- a size that is sound is good, and so are those after it
 size-good : (good : Bool) (table : ℕ) (rest : Fault) → sizeOr good table rest ≡ Sound → good ≡ true
@@ -58,47 +58,40 @@ sizes-sound T h =
       numbers = leb-true (length (T .numbers)) mostNumbers (size-good _ _ _ r7);
     }
 
--- the number of a record fits a word
-pub count-small : (T : Tables) → Sized T → (table : ℕ) → recordCount T table ≤ 4096
-unfolding recordCount
-count-small T z table =
-    let small : ℕ → Type 0 = λ (n : ℕ). n ≤ 4096 in
-    pick-all small (eqb table 1) _ _ (λ t. z .texts)
-    (λ f1.
-    pick-all small (eqb table 2) _ _ (λ t. z .nodes)
-    (λ f2.
-    pick-all small (eqb table 3) _ _ (λ t. omega (arith, z .notes))
-    (λ f3.
-    pick-all small (eqb table 4) _ _ (λ t. z .schemas)
-    (λ f4.
-    pick-all small (eqb table 5) _ _ (λ t. omega (arith, z .registry))
-    (λ f5. z .patterns)))))
+-- the tables from the last to the first, each with the faults of those after it
+module _ (z : Counts) (T : Tables) {r : Fault} where
+  from6 : r ≡ badOr 6 (patternOk z (T .patterns)) (patternCount (T .patterns)) Sound → r ≡ recordsFrom z T 6 1
+  unfolding recordsFrom firstBad recordCount recordOk badOr
+  from6 e = e
 
--- a loop over the tables, from `table` on: its invariant is `recordsFrom z T table (7 - table) ≡ x`; n and bad are what the code finds
-module _ (z : Counts) (T : Tables) (table : ℕ) {x : Fault} (inv : recordsFrom z T table (7 - table) ≡ x) where
-  one-more : table ≤ 6 → 7 - table ≡ suc (7 - (table + 1))
-  one-more h = omega arith
+  from5 : {rest : Fault} → rest ≡ recordsFrom z T 6 1 → r ≡ badOr 5 (entryOk z (T .registry)) (entryCount (T .registry)) rest → r ≡ recordsFrom z T 5 2
+  unfolding recordsFrom firstBad recordCount recordOk badOr
+  from5 p e = rw p at e
 
-  pub records-end : 6 < table → Sound ≡ x
-  unfolding recordsFrom
-  records-end h = let n : 7 - table ≡ 0 = omega arith in rw n at inv
+  from4 : {rest : Fault} → rest ≡ recordsFrom z T 5 2 → r ≡ badOr 4 (schemaOk z (T .pool) (T .texts) (T .links) (T .schemas)) (schemaCount (T .schemas)) rest → r ≡ recordsFrom z T 4 3
+  unfolding recordsFrom firstBad recordCount recordOk badOr
+  from4 p e = rw p at e
 
-  module _ {n bad : ℕ} (count : n ≡ recordCount T table) (found : bad ≡ first (recordOk z T table) 0 n) (h : table ≤ 6) where
-    bad-is : firstBad z T table ≡ bad
-    unfolding firstBad
-    bad-is = cc
+  from3 : {rest : Fault} → rest ≡ recordsFrom z T 4 3 → r ≡ badOr 3 (noteOk (T .notes)) (noteCount (T .notes)) rest → r ≡ recordsFrom z T 3 4
+  unfolding recordsFrom firstBad recordCount recordOk badOr
+  from3 p e = rw p at e
 
-    pub records-more : n ≤ bad → recordsFrom z T (table + 1) (7 - (table + 1)) ≡ x
-    unfolding recordsFrom
-    records-more l = rw (add-one table) (rw (one-more h, bad-is, ← count, le-ltb bad n l, add-one table) at inv)
+  from2 : {rest : Fault} → rest ≡ recordsFrom z T 3 4 → r ≡ badOr 2 (nodeOk z (T .links) (T .nodes)) (nodeCount (T .nodes)) rest → r ≡ recordsFrom z T 2 5
+  unfolding recordsFrom firstBad recordCount recordOk badOr
+  from2 p e = rw p at e
 
-    pub records-stop : bad < n → Bad table bad ≡ x
-    unfolding recordsFrom
-    records-stop l = rw (one-more h, bad-is, ← count, lt-ltb bad n l) at inv
+  from1 : {rest : Fault} → rest ≡ recordsFrom z T 2 5 → r ≡ badOr 1 (textOk (T .pool) (T .texts)) (textCount (T .texts)) rest → r ≡ recordsFrom z T 1 6
+  unfolding recordsFrom firstBad recordCount recordOk badOr
+  from1 p e = rw p at e
 
-pub records-start : (T : Tables) {z : Counts} → z ≡ countsOf T → recordsFrom z T 1 6 ≡ recordsFault T
+counted : (T : Tables) {z : Counts} → z ≡ countsOf T → recordsFrom z T 1 6 ≡ recordsFault T
 unfolding recordsFault
-records-start T e = rw e
+counted T e = rw e
+
+-- the records as the code finds them
+pub records-told : (T : Tables) {z : Counts} {r f2 f3 f4 f5 f6 : Fault} → z ≡ countsOf T → f6 ≡ badOr 6 (patternOk z (T .patterns)) (patternCount (T .patterns)) Sound → f5 ≡ badOr 5 (entryOk z (T .registry)) (entryCount (T .registry)) f6 → f4 ≡ badOr 4 (schemaOk z (T .pool) (T .texts) (T .links) (T .schemas)) (schemaCount (T .schemas)) f5 → f3 ≡ badOr 3 (noteOk (T .notes)) (noteCount (T .notes)) f4 → f2 ≡ badOr 2 (nodeOk z (T .links) (T .nodes)) (nodeCount (T .nodes)) f3 → r ≡ badOr 1 (textOk (T .pool) (T .texts)) (textCount (T .texts)) f2 → r ≡ recordsFault T
+records-told T {z} n e6 e5 e4 e3 e2 e1 =
+    from1 z T (from2 z T (from3 z T (from4 z T (from5 z T (from6 z T e6) e5) e4) e3) e2) e1 ∙ counted T n
 
 -- the sizes as the code finds them
 pub lent-told : (pool texts nodes notes schemas registry patterns links numbers : List ℕ) {n s : Bool} {r f : Fault} → r ≡ sizesFault pool texts nodes registry patterns numbers n s (leb (length links) mostLinks) → n ≡ wholeSize (length notes) noteWords mostNotes → s ≡ wholeSize (length schemas) schemaWords mostSchemas → r ≡ f → lentFault (tables pool texts nodes notes schemas registry patterns links numbers) ≡ f

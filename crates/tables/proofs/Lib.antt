@@ -1,2 +1,3 @@
 pub mod Faults
 pub mod Facts
+mod Loops

@@ -5,7 +5,7 @@ use mathlib.Core.Bool.{true}
 use lib.ListN.{length}
 use Rattle.text.specs.Text.{textCount}
 use Rattle.layout.specs.Layout.{Tables, mostBytes, mostTexts, mostNodes, mostNotes, mostSchemas, mostEntries, mostPatterns, mostLinks, mostNumbers, nodeCount, noteCount, schemaCount, entryCount, patternCount}
-use Rattle.rules.specs.Records.{countsOf, textOk, nodeOk, noteOk, entryOk, patternOk}
+use Rattle.records.specs.Records.{countsOf, textOk, nodeOk, noteOk, entryOk, patternOk}
 use Rattle.rules.specs.Schemas.{schemaOk}
 
 -- no table is longer than its limit

@@ -3,26 +3,22 @@ ghost use mathlib.Core.Path.{_≡_};
 ghost use Prim.Native.Nat.{_<_, _≤_};
 ghost use lib.ListN.{length};
 ghost use Rattle.layout.specs.Layout.{tables};
-ghost use Rattle.layout.specs.Walk.{first};
-ghost use Rattle.rules.specs.Records.{countsIn, countsOf};
+ghost use Rattle.records.specs.Records.{countsIn, countsOf};
 ghost use Rattle.tables.specs.Check.{
   wholeSize,
   usedSize,
   sizeOr,
   textsSize,
   sizesFault,
-  recordCount,
-  recordOk,
   recordsFault,
   tablesFault,
 };
 ghost use Rattle.tables.specs.Facts.{Sized};
+use crate::walk;
 use layout::words;
 use layout::words::NONE;
-use rules::lists::both;
-use rules::records;
-use rules::records::Counts;
-use rules::schemas;
+use lists::both;
+use records::Counts;
 
 // What the check finds: nothing, or a table and its first bad record, NONE for a size.
 pub enum Fault {
@@ -107,98 +103,6 @@ fn counts(texts: &[u32], nodes: &[u32], notes: &[u32], schemas: &[u32], numbers:
     }
 }
 
-fn record_count(
-    pool: &[u8],
-    texts: &[u32],
-    nodes: &[u32],
-    notes: &[u32],
-    schemas: &[u32],
-    registry: &[u32],
-    patterns: &[u32],
-    links: &[u32],
-    numbers: &[u64],
-    table: u32,
-) -> usize
-    ensures { λ r. ⌜ r ≡ recordCount (tables (now (pool .entry)) (now (texts .entry)) (now (nodes .entry)) (now (notes .entry)) (now (schemas .entry)) (now (registry .entry)) (now (patterns .entry)) (now (links .entry)) (now (numbers .entry))) table ⌝ }
-{
-    match table {
-        1 => text::text_count(texts),
-        2 => words::node_count(nodes),
-        3 => words::note_count(notes),
-        4 => words::schema_count(schemas),
-        5 => words::entry_count(registry),
-        _ => words::pattern_count(patterns),
-    }
-}
-
-// Whether record i of one of tables 1 to 6 is good.
-fn record_ok(
-    z: Counts,
-    pool: &[u8],
-    texts: &[u32],
-    nodes: &[u32],
-    notes: &[u32],
-    schemas: &[u32],
-    registry: &[u32],
-    patterns: &[u32],
-    links: &[u32],
-    numbers: &[u64],
-    table: u32,
-    i: u32,
-) -> bool
-    ensures { λ r. ⌜ r ≡ recordOk z (tables (now (pool .entry)) (now (texts .entry)) (now (nodes .entry)) (now (notes .entry)) (now (schemas .entry)) (now (registry .entry)) (now (patterns .entry)) (now (links .entry)) (now (numbers .entry))) table i ⌝ }
-{
-    match table {
-        1 => records::text_ok(pool, texts, i),
-        2 => records::node_ok(z, links, nodes, i),
-        3 => records::note_ok(notes, i),
-        4 => schemas::schema_ok(z, pool, texts, links, schemas, i),
-        5 => records::entry_ok(z, registry, i),
-        _ => records::pattern_ok(z, patterns, i),
-    }
-}
-
-// The first bad one of a table's n records, or n.
-fn first_bad(
-    z: Counts,
-    pool: &[u8],
-    texts: &[u32],
-    nodes: &[u32],
-    notes: &[u32],
-    schemas: &[u32],
-    registry: &[u32],
-    patterns: &[u32],
-    links: &[u32],
-    numbers: &[u64],
-    table: u32,
-    n: u32,
-) -> u32
-    ensures { λ r. ⌜ r ≡ first (recordOk z (tables (now (pool .entry)) (now (texts .entry)) (now (nodes .entry)) (now (notes .entry)) (now (schemas .entry)) (now (registry .entry)) (now (patterns .entry)) (now (links .entry)) (now (numbers .entry))) table) 0 n ⌝ }
-{
-    let mut i = 0;
-    while i < n {
-        if record_ok(
-            z,
-            pool,
-            texts,
-            nodes,
-            notes,
-            schemas,
-            registry,
-            patterns,
-            links,
-            numbers,
-            table,
-            i,
-        ) {
-            i += 1;
-        } else {
-            return i;
-        }
-    }
-    n
-}
-
 // The records of tables 1 to 6, once the sizes are good.
 fn check_records(
     pool: &[u8],
@@ -215,40 +119,12 @@ fn check_records(
     ensures { λ r. ⌜ r ≡ recordsFault (tables (now (pool .entry)) (now (texts .entry)) (now (nodes .entry)) (now (notes .entry)) (now (schemas .entry)) (now (registry .entry)) (now (patterns .entry)) (now (links .entry)) (now (numbers .entry))) ⌝ }
 {
     let z = counts(texts, nodes, notes, schemas, numbers);
-    let mut table = 1;
-    while table <= 6 {
-        let n = record_count(
-            pool,
-            texts,
-            nodes,
-            notes,
-            schemas,
-            registry,
-            patterns,
-            links,
-            numbers,
-            table,
-        ) as u32;
-        let bad = first_bad(
-            z,
-            pool,
-            texts,
-            nodes,
-            notes,
-            schemas,
-            registry,
-            patterns,
-            links,
-            numbers,
-            table,
-            n,
-        );
-        if bad < n {
-            return Fault::Bad { table, record: bad };
-        }
-        table += 1;
-    }
-    Fault::Sound
+    let from6 = walk::patterns_fault(z, patterns, Fault::Sound);
+    let from5 = walk::registry_fault(z, registry, from6);
+    let from4 = walk::schemas_fault(z, pool, texts, links, schemas, from5);
+    let from3 = walk::notes_fault(notes, from4);
+    let from2 = walk::nodes_fault(z, links, nodes, from3);
+    walk::texts_fault(pool, texts, from2)
 }
 
 // The whole check: answer 20's table and record, or nothing.

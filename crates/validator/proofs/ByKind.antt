@@ -254,6 +254,11 @@ module _ (T : Tables) (mode : Mode) (below n s : ℕ) where
     pub entries-more : a ≡ Accepted → X ≡ entriesLeft (i + 1) count
     entries-more h = entries-cut ∙ and-go (entryIn T mode below n s i) (entriesLeft (i + 1) count) (is-accepted st k a (entryIn T mode below n s i) e h)
 
+  pub entries-on : {X : Outcome} (i count : ℕ) → X ≡ entriesLeft i count → i < count → entryIn T mode below n s i ≡ accepted → X ≡ entriesLeft (i + 1) count
+  unfolding entriesLeft entryIn
+  entries-on i count x lt h =
+      x ∙ entries-step (nodesIn T mode) T (visitOf T mode below) s (objectIn T mode s) n count i lt ∙ and-go _ _ h
+
   -- one entry
   abbrev pub onChoice : ℕ → ℕ → Choice → Outcome
   onChoice t v (Part x) = place (keyStep t) (visitOf T mode below v x)
@@ -341,3 +346,7 @@ module _ (T : Tables) (mode : Mode) (below items : ℕ) (L : List ℕ) (first co
   pub items-more : a ≡ Accepted → X ≡ itemsOver (λ m. visitOf T mode below m items) (i + 1) (slice L (first + (i + 1)) (count - (i + 1)))
   unfolding partIn
   items-more h = more L first count i part lt p (λ m. visitOf T mode below m items) st k a X x e h
+
+module _ (T : Tables) (mode : Mode) (below items : ℕ) (L : List ℕ) (first count i part : ℕ) (lt : i < count) (p : part ≡ getD L (first + i) 0) (X : Outcome) (x : X ≡ itemsOver (λ m. visitOf T mode below m items) i (slice L (first + i) (count - i))) where
+  pub items-on : visitOf T mode below part items ≡ accepted → X ≡ itemsOver (λ m. visitOf T mode below m items) (i + 1) (slice L (first + (i + 1)) (count - (i + 1)))
+  items-on h = items-more T mode below items L first count i part lt p 0 0 Accepted X x (sym (ap (λ (o : Outcome). told o 0 0) (part-accepted T mode below part items 1 i h))) refl

@@ -31,7 +31,7 @@ fine (Wrong number node d) s note h = absurd (true≢false (sym h))
 fine BadPattern s note h = absurd (true≢false (sym h))
 fine Unanswered s note h = absurd (true≢false (sym h))
 
-level-over : (level : ℕ) → (level ≡ 0 → ⊥) → level ≡ suc (level - 1)
+pub level-over : (level : ℕ) → (level ≡ 0 → ⊥) → level ≡ suc (level - 1)
 level-over level h = omega arith
 
 module _ (T : Tables) (mode : Mode) (level n s kind : ℕ) (over : level ≡ 0 → ⊥) (own : kind ≡ schemaKind (T .schemas) s) (v : Verdict) (r : Bool) (f : r ≡ isFine v) where

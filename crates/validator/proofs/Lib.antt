@@ -4,3 +4,4 @@ pub mod Loops
 pub mod ByKind
 pub mod Ends
 pub mod Early
+pub mod AtOnce

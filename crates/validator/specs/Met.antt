@@ -9,8 +9,7 @@ use Rattle.text.specs.Choice.{either, pick}
 use Rattle.error.specs.declared.Mode.{Mode}
 use Rattle.error.specs.Paths.{Step, stepOf, pathWords}
 use lib.Dec.{eqb, ltb}
-use Rattle.layout.specs.Layout.{Tables, mostBytes, nodeCount, schemaCount, schemaNote, arrayItems, refText, propertiesFirst, propertiesCount, objectClosed, additionalProperties}
-use Rattle.lookup.specs.Lookup.{answerOfPattern}
+use Rattle.layout.specs.Layout.{Tables, mostBytes, nodeKind, nodeB, nodeCount, schemaCount, schemaNote, arrayItems, refText, propertiesFirst, propertiesCount, objectClosed, additionalProperties}
 use Rattle.schema.specs.Shape.{Note, Object, Shape, plain, anyOf, allOf, array, object, ref}
 use Rattle.schema.specs.Look.{wordsOf, look, raw, detecting, noteAt, listOf, arrayOf, objectOf, optional, sortObject}
 use Rattle.error.specs.declared.Answer.{Answer}
@@ -18,7 +17,10 @@ use Rattle.error.specs.declared.Detail.the-variants.{Empty}
 use Rattle.error.specs.Answers.{NONE, plainAnswer, badTable, refusalOf}
 use Rattle.lookup.specs.declared.Found.{Found}
 use Rattle.lookup.specs.declared.Found.the-variants.{At, Nothing}
-use Rattle.lookup.specs.Lookup.{propertyOf}
+use Rattle.lookup.specs.Lookup.{entryKey, propertyPlace, propertyOf, answerOfPattern}
+use Rattle.judge.specs.declared.Verdict.{Verdict}
+use Rattle.judge.specs.declared.Verdict.the-variants.{Fine}
+use Rattle.judge.specs.Judge.{keyText}
 use Rattle.tables.specs.declared.check.Fault.{Fault}
 use Rattle.tables.specs.declared.check.Fault.the-variants.{Sound, Bad}
 use Rattle.tables.specs.Check.{tablesFault}
@@ -29,8 +31,8 @@ use Rattle.validator.specs.declared.walk.Choice.the-variants.{Part, Clos
 use Rattle.validator.specs.declared.paths.Visited.{Visited}
 use Rattle.validator.specs.declared.paths.Visited.the-variants.{Accepted, Refused, Invalid, Ended}
 use Rattle.validator.specs.Outcome.{Outcome, accepted, refused, invalid, ended, place, andThen, verdict}
-use Rattle.validator.specs.Visit.{Nodes, anyOver, allOver, arrayAt, objectAt, entryAt, refAt}
-use Rattle.validator.specs.Nodes.{nodesOf, entryOf}
+use Rattle.validator.specs.Visit.{Nodes, anyOver, allOver, arrayAt, objectAt, entriesOver, entryAt, refAt}
+use Rattle.validator.specs.Nodes.{nodesOf, entryOf, entriesFrom}
 use Rattle.validator.specs.Validate.{instanceWords, schemaStepWords, findIn, visitOf}
 
 -- ---- outcomes, as the code has them: the counts of both paths start at those of the visited place
@@ -107,6 +109,13 @@ chosenIn pool texts schemas links s t =
     (eqb (objectClosed schemas s) 1)
     (additionalProperties schemas s)
 
+-- the place among the properties of entry k's key, where that is a string
+unfoldable pub entryPlace : List ℕ → List ℕ → List ℕ → List ℕ → List ℕ → ℕ → ℕ → ℕ → Found
+entryPlace pool texts nodes schemas links n s k =
+    pick (eqb (nodeKind nodes (entryKey nodes links n k)) 4)
+    (propertyPlace pool texts links (propertiesFirst schemas s) (propertiesCount schemas s) (keyText nodes links n k))
+    Nothing
+
 -- ---- what each member finds, with `below` levels left for the parts
 module _ (T : Tables) (mode : Mode) where
   abbrev pub nodesIn : Nodes
@@ -132,6 +141,11 @@ module _ (T : Tables) (mode : Mode) where
 
     unfoldable pub entryIn : ℕ → Outcome
     entryIn k = entryAt nodesIn (λ x. x) (visitOf T mode below) s (objectIn s) n (entryOf T n k .value) (entryOf T n k .key)
+
+    -- all entries, in order
+    unfoldable pub entriesIn : Outcome
+    entriesIn =
+        entriesOver nodesIn (λ x. x) (visitOf T mode below) s (objectIn s) n (entriesFrom T n 0 (nodeB (T .nodes) n))
 
     unfoldable pub objectWhole : Outcome
     objectWhole = objectAt nodesIn (λ x. x) (visitOf T mode below) s (objectIn s) n
@@ -159,6 +173,10 @@ module _ (T : Tables) (mode : Mode) where
 -- true where the outcome is known to be accepted; false says nothing
 unfoldable pub Accepts : Bool → Outcome → Type 0
 Accepts r o = r ≡ true → o ≡ accepted
+
+-- true where that verdict is fine, and the outcome accepted; false says nothing
+unfoldable pub AcceptsAll : Bool → Verdict → Outcome → Type 0
+AcceptsAll r v o = r ≡ true → (v ≡ Fine) × (o ≡ accepted)
 
 -- ---- buffers
 -- the words of p stand in xs from `at` on

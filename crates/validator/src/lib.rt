@@ -141,7 +141,7 @@ pub fn validate_mode(
             answer
         }
         Begun::Visit => {
-            let found = walk::visit(
+            let found = walk::first_visit(
                 mode,
                 pool,
                 texts,
@@ -154,12 +154,9 @@ pub fn validate_mode(
                 numbers,
                 ipath,
                 spath,
-                true,
                 64,
                 node,
                 schema,
-                0,
-                0,
             );
             finish(found, ipath, spath)
         }

@@ -1,5 +1,6 @@
 // The visit and its parts. Each level writes its own step at its own place, on the way out and only while `log` says so.
 ghost use mathlib.Core.Path.{_≡_};
+ghost use mathlib.Core.Bool.{true};
 ghost use Prim.Native.Nat.{_+_, _-_};
 ghost use lib.ListN.{getD};
 ghost use Rattle.layout.specs.Layout.{tables, schemaKind};
@@ -355,7 +356,7 @@ fn validate_array(
     requires { ⌜ Deep steps kinds below (now ipath) (now spath) (now pool) ⌝ }
     ensures { λ r. ⌜ Met (arrayIn (tables (now (pool .entry)) (now (texts .entry)) (now (nodes .entry)) (now (notes .entry)) (now (schemas .entry)) (now (registry .entry)) (now (patterns .entry)) (now (links .entry)) (now (numbers .entry))) mode below node s) log steps kinds (now (ipath .entry)) (now (ipath .exit)) (now (spath .entry)) (now (spath .exit)) r ⌝ }
 {
-    let v = judge::array::check_array(mode, pool, texts, nodes, schemas, links, numbers, node, s);
+    let v = listed::check_array(mode, pool, texts, nodes, schemas, links, numbers, node, s);
     let Verdict::Fine = v else {
         return paths::judged(notes, schemas, v, s, steps, kinds);
     };
@@ -368,7 +369,7 @@ fn validate_array(
     let mut i: u32 = 0;
     while i < count {
         let part = link(links, first, i);
-        let a = visit_part(
+        if quick::accepts(
             mode,
             pool,
             texts,
@@ -379,21 +380,39 @@ fn validate_array(
             patterns,
             links,
             numbers,
-            ipath,
-            spath,
-            log,
             below,
-            1,
-            i,
             part,
             items,
-            steps,
-            kinds,
-        );
-        let Visited::Accepted = a else {
-            return a;
-        };
-        i += 1;
+        ) {
+            i += 1;
+        } else {
+            let a = visit_part(
+                mode,
+                pool,
+                texts,
+                nodes,
+                notes,
+                schemas,
+                registry,
+                patterns,
+                links,
+                numbers,
+                ipath,
+                spath,
+                log,
+                below,
+                1,
+                i,
+                part,
+                items,
+                steps,
+                kinds,
+            );
+            let Visited::Accepted = a else {
+                return a;
+            };
+            i += 1;
+        }
     }
     Visited::Accepted
 }
@@ -509,7 +528,7 @@ fn validate_object(
     requires { ⌜ Deep steps kinds below (now ipath) (now spath) (now pool) ⌝ }
     ensures { λ r. ⌜ Met (objectWhole (tables (now (pool .entry)) (now (texts .entry)) (now (nodes .entry)) (now (notes .entry)) (now (schemas .entry)) (now (registry .entry)) (now (patterns .entry)) (now (links .entry)) (now (numbers .entry))) mode below node s) log steps kinds (now (ipath .entry)) (now (ipath .exit)) (now (spath .entry)) (now (spath .exit)) r ⌝ }
 {
-    let v = judge::object::check_object(pool, texts, nodes, schemas, links, node, s);
+    let v = objects::check_object(pool, texts, nodes, schemas, links, node, s);
     let Verdict::Fine = v else {
         return paths::judged(notes, schemas, v, s, steps, kinds);
     };
@@ -665,7 +684,7 @@ fn inner(
         5 => paths::judged(
             notes,
             schemas,
-            judge::array::validate_enum(mode, pool, texts, nodes, schemas, links, numbers, node, s),
+            listed::validate_enum(mode, pool, texts, nodes, schemas, links, numbers, node, s),
             s,
             steps,
             kinds,
@@ -831,4 +850,64 @@ pub fn visit(
         return a;
     };
     a
+}
+
+// The visit that a call begins with; most are accepted at once.
+pub fn first_visit(
+    mode: Mode,
+    pool: &[u8],
+    texts: &[u32],
+    nodes: &[u32],
+    notes: &[u32],
+    schemas: &[u32],
+    registry: &[u32],
+    patterns: &[u32],
+    links: &[u32],
+    numbers: &[u64],
+    ipath: &mut [u32],
+    spath: &mut [u32],
+    level: u32,
+    node: u32,
+    s: u32,
+) -> Visited
+    requires { ⌜ Room 0 0 level (now ipath) (now spath) (now pool) ⌝ }
+    ensures { λ r. ⌜ Met (visitOf (tables (now (pool .entry)) (now (texts .entry)) (now (nodes .entry)) (now (notes .entry)) (now (schemas .entry)) (now (registry .entry)) (now (patterns .entry)) (now (links .entry)) (now (numbers .entry))) mode level node s) true 0 0 (now (ipath .entry)) (now (ipath .exit)) (now (spath .entry)) (now (spath .exit)) r ⌝ }
+{
+    if quick::accepts(
+        mode,
+        pool,
+        texts,
+        nodes,
+        notes,
+        schemas,
+        registry,
+        patterns,
+        links,
+        numbers,
+        level,
+        node,
+        s,
+    ) {
+        return Visited::Accepted;
+    }
+    visit(
+        mode,
+        pool,
+        texts,
+        nodes,
+        notes,
+        schemas,
+        registry,
+        patterns,
+        links,
+        numbers,
+        ipath,
+        spath,
+        true,
+        level,
+        node,
+        s,
+        0,
+        0,
+    )
 }

@@ -289,27 +289,46 @@ fn one(
         let Err(difference) = judged.checker(checker.as_ref()) else {
             continue;
         };
-        let head = format!(
-            "seed {} index {index} stream {}: {name}: {difference}",
-            plan.seed,
-            plan.stream.name()
-        );
-        let Some(place) = beat else {
-            return Err(head);
-        };
-        let beats = Cell::new(0);
         let again = |case: &Case| {
-            beats.set(beats.get() + 1);
-            let _ = place.set(index, beats.get());
             let judged = Judged::of(case, Ask::Domain);
             let same = judged.expected.answer.number == answer;
             (same, judged.checker(checker.as_ref()))
         };
-        let small = shrink(case.clone(), |case| matches!(again(case), (true, Err(_))));
-        let left = again(&small).1.err().unwrap_or_default();
-        return Err(format!("{head}\nsmallest: {left}\n{small}"));
+        return Err(told(plan, index, name, &difference, beat, |beat| {
+            let small = shrink(case.clone(), |case| {
+                beat();
+                matches!(again(case), (true, Err(_)))
+            });
+            let left = again(&small).1.err().unwrap_or_default();
+            format!("{left}\n{small}")
+        }));
     }
     Ok(())
+}
+
+/// What is said of a difference; made small where there is a place for its beat.
+fn told(
+    plan: Plan,
+    index: u64,
+    name: &str,
+    difference: &str,
+    beat: Option<&Place>,
+    smallest: impl FnOnce(&dyn Fn()) -> String,
+) -> String {
+    let head = format!(
+        "seed {} index {index} stream {}: {name}: {difference}",
+        plan.seed,
+        plan.stream.name()
+    );
+    let Some(place) = beat else {
+        return head;
+    };
+    let beats = Cell::new(0);
+    let small = smallest(&|| {
+        beats.set(beats.get() + 1);
+        let _ = place.set(index, beats.get());
+    });
+    format!("{head}\nsmallest: {small}")
 }
 
 /// One grouping through every checker; the same of a difference.
@@ -331,21 +350,14 @@ fn one_grouping(
         let Err(difference) = grouping.held(checker, Some(&judge)) else {
             continue;
         };
-        let head = format!(
-            "seed {} index {index} stream grouped: {name}: {difference}",
-            plan.seed
-        );
-        let Some(place) = beat else {
-            return Err(head);
-        };
-        let beats = Cell::new(0);
-        let small = grouping.smallest(|grouping| {
-            beats.set(beats.get() + 1);
-            let _ = place.set(index, beats.get());
-            grouping.held(checker, None).is_err()
-        });
-        let left = small.held(checker, None).err().unwrap_or_default();
-        return Err(format!("{head}\nsmallest: {left}\n{small}"));
+        return Err(told(plan, index, name, &difference, beat, |beat| {
+            let small = grouping.smallest(|grouping| {
+                beat();
+                grouping.held(checker, None).is_err()
+            });
+            let left = small.held(checker, None).err().unwrap_or_default();
+            format!("{left}\n{small}")
+        }));
     }
     Ok(())
 }

@@ -5,7 +5,7 @@ use crate::pattern;
 use crate::run::{Outcome, run};
 use quarto_yaml_model::{Model, check, check_used};
 use quarto_yaml_oracle::{Compiled, Oracle, PRESENT, Unfit, Validated, fit};
-use quarto_yaml_tables::layout::{LINKS, NOTES, SCHEMAS, schema};
+use quarto_yaml_tables::layout::{GROWING, SCHEMAS, schema};
 use quarto_yaml_tables::{Checker, Mode, RawTables};
 
 /// What the original had to say about a case.
@@ -95,7 +95,7 @@ impl<'a> Judged<'a> {
         same_words("schema path", &outcome.steps, &expected.steps)?;
         match (&outcome.tables, &expected.tables) {
             (Some(tables), Some(expected)) => {
-                for table in [NOTES, SCHEMAS, LINKS] {
+                for table in GROWING {
                     let name = format!("table {}", table.number);
                     same_words(&name, tables.words(table), expected.words(table))?;
                 }
@@ -197,23 +197,12 @@ fn ask(case: &Case) -> Heard {
             Heard::Validated(Oracle.validate(tables, node, schema))
         }
         &Request::Compile { used, schema } => {
-            Heard::Compiled(Oracle.compile(&lent(tables, used), schema))
+            Heard::Compiled(Oracle.compile(&tables.cut(used), schema))
         }
         &Request::CompileThenValidate { used, schema, node } => {
-            Heard::Both(Oracle.compile_then_validate(&lent(tables, used), node, schema))
+            Heard::Both(Oracle.compile_then_validate(&tables.cut(used), node, schema))
         }
     }
-}
-
-/// The tables up to the used counts.
-fn lent(tables: &RawTables, used: [u32; 3]) -> RawTables {
-    let mut tables = tables.clone();
-    for (table, used) in [NOTES, SCHEMAS, LINKS].into_iter().zip(used) {
-        tables
-            .words_mut(table)
-            .truncate(used as usize * table.words);
-    }
-    tables
 }
 
 /// Why the original is not asked: well-formed tables, source mode, and no answer
@@ -238,7 +227,7 @@ fn outside(case: &Case, expected: &Outcome) -> Option<&'static str> {
     }
     let sound = match &case.request {
         &Request::Compile { used, .. } | &Request::CompileThenValidate { used, .. } => {
-            check_used(&case.tables, used).map(|_| lent(&case.tables, used))
+            check_used(&case.tables, used).map(|_| case.tables.cut(used))
         }
         _ => check(&case.tables).map(|_| case.tables.clone()),
     };

@@ -16,3 +16,16 @@ pub mod run;
 pub mod shrink;
 pub mod tally;
 pub mod workloads;
+
+use std::process::ExitCode;
+
+/// How a command ends; what went wrong goes to the error output.
+pub fn ended(result: Result<(), String>) -> ExitCode {
+    match result {
+        Ok(()) => ExitCode::SUCCESS,
+        Err(message) => {
+            eprintln!("{message}");
+            ExitCode::FAILURE
+        }
+    }
+}

@@ -1,8 +1,8 @@
 //! Runs a case through a checker, with buffers full of garbage.
 
 use crate::case::{Case, Request};
-use quarto_yaml_tables::layout::{self, INSTANCE_WORDS, SCHEMA_WORDS};
-use quarto_yaml_tables::{Answer, Call, Checker, Mode, RawTables};
+use quarto_yaml_tables::layout::{INSTANCE_WORDS, SCHEMA_WORDS};
+use quarto_yaml_tables::{Answer, Call, Checker, Mode, Paths, RawTables, Visit};
 
 /// Everything that a call leaves behind.
 #[derive(Clone, Debug, PartialEq, Eq)]
@@ -39,8 +39,9 @@ pub fn run(checker: &dyn Checker, case: &Case) -> Option<Outcome> {
             instance_words,
             schema_words,
         } => checker.has(Call::Validate).then(|| {
+            let visit = Visit { mode, node, schema };
             let sizes = [instance_words, schema_words];
-            validated(checker, &case.tables, mode, [node, schema], sizes)
+            validated(checker, &case.tables, visit, sizes)
         }),
         &Request::Compile { used, schema } => checker
             .has(Call::Compile)
@@ -65,16 +66,14 @@ fn plain(answer: Answer) -> Outcome {
 fn validated(
     checker: &dyn Checker,
     tables: &RawTables,
-    mode: Mode,
-    [node, schema]: [u32; 2],
-    [instance_words, schema_words]: [usize; 2],
+    visit: Visit,
+    sizes: [usize; 2],
 ) -> Outcome {
-    let mut instance = vec![STALE; instance_words];
-    let mut steps = vec![STALE; schema_words];
-    let answer = checker.validate(tables, mode, node, schema, &mut instance, &mut steps);
+    let mut paths = Paths::of(STALE, sizes);
+    let answer = checker.validate(tables, visit, &mut paths);
     Outcome {
-        instance,
-        steps,
+        instance: paths.instance,
+        steps: paths.steps,
         ..plain(answer)
     }
 }
@@ -102,9 +101,12 @@ fn compiled_then_validated(
     let Some(cut) = first.in_use() else {
         return first;
     };
-    let sizes = [INSTANCE_WORDS, SCHEMA_WORDS];
-    let pair = [node, first.answer.record];
-    let second = validated(checker, &cut, Mode::Unnamed, pair, sizes);
+    let visit = Visit {
+        mode: Mode::Unnamed,
+        node,
+        schema: first.answer.record,
+    };
+    let second = validated(checker, &cut, visit, [INSTANCE_WORDS, SCHEMA_WORDS]);
     Outcome {
         answer: first.answer,
         then: Some(second.answer),
@@ -116,20 +118,9 @@ fn compiled_then_validated(
 impl Outcome {
     /// The tables after a compile, cut at the used counts, where these are within.
     pub fn in_use(&self) -> Option<RawTables> {
-        let mut tables = self.tables.clone()?;
-        let used = [
-            (layout::NOTES, self.answer.used_notes),
-            (layout::SCHEMAS, self.answer.used_schemas),
-            (layout::LINKS, self.answer.used_links),
-        ];
-        for (table, used) in used {
-            let words = tables.words_mut(table);
-            let end = (used as usize).checked_mul(table.words)?;
-            if end > words.len() {
-                return None;
-            }
-            words.truncate(end);
-        }
-        Some(tables)
+        let (tables, used) = (self.tables.as_ref()?, self.answer.used());
+        let mut both = tables.used().into_iter().zip(used);
+        both.all(|(lent, used)| used <= lent)
+            .then(|| tables.cut(used))
     }
 }

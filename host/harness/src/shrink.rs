@@ -1,7 +1,7 @@
 //! The smallest form of a failing case.
 
 use crate::case::{Case, Request, WORD_TABLES};
-use quarto_yaml_tables::layout::{NONE, Table};
+use quarto_yaml_tables::layout::{GROWING, NONE, Table};
 
 /// Makes the case smaller as long as it still fails.
 pub fn shrink(case: Case, fails: impl Fn(&Case) -> bool) -> Case {
@@ -139,12 +139,15 @@ fn in_use(case: &Case, table: Table) -> usize {
     else {
         return words;
     };
-    match table.number {
-        3 => words.min(used[0] as usize * table.words),
-        4 => words.min(used[1] as usize * table.words),
-        7 => words.min(used[2] as usize * table.words),
-        _ => words,
+    match place(table) {
+        Some(place) => words.min(used[place] as usize * table.words),
+        None => words,
     }
+}
+
+/// The place of a table's used count, where compiling appends to it.
+fn place(table: Table) -> Option<usize> {
+    GROWING.iter().position(|&growing| growing == table)
 }
 
 /// Words in the order in which they are preferred: absent, then small.
@@ -158,11 +161,8 @@ fn lower_used(case: &mut Case, table: Table, step: usize) {
     else {
         return;
     };
-    let place = match table.number {
-        3 => 0,
-        4 => 1,
-        7 => 2,
-        _ => return,
+    let Some(place) = place(table) else {
+        return;
     };
     let left = case.tables.words(table).len() / table.words;
     if used[place] as usize > left {

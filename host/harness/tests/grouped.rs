@@ -2,11 +2,11 @@
 
 use quarto_yaml_harness::generate::grouping;
 use quarto_yaml_harness::grouped::{Grouping, Joins, Run, Tree, Trees, bases, regroup};
-use quarto_yaml_harness::plant::SLIPS;
+use quarto_yaml_harness::plant::{SLIPS, altered};
 use quarto_yaml_model::{Model, check};
 use quarto_yaml_tables::layout::{NONE, SCHEMAS, schema};
 use quarto_yaml_tables::{
-    Answer, Checker, Mode, Note, NoteFields, ObjectRules, RawTables, Schema, StringRules, Tables,
+    Answer, Checker, Note, NoteFields, ObjectRules, Paths, RawTables, Schema, StringRules, Tables,
 };
 
 struct Bench(Tables);
@@ -262,7 +262,7 @@ fn each_slip_is_noticed() {
         let grouping = grouping(6, index);
         let judge = grouping.run(&Model).expect("both versions");
         for (slip, (by_grouping, by_judge)) in SLIPS.iter().zip(&mut noticed) {
-            let ran = grouping.run(slip).expect("both versions");
+            let ran = grouping.run(&slip.checker).expect("both versions");
             *by_grouping += usize::from(ran.alike().is_err());
             *by_judge += usize::from(ran.as_judged(&judge).is_err());
         }
@@ -283,7 +283,10 @@ fn a_failing_grouping_is_made_small() {
         .iter()
         .find(|slip| slip.name == "additional joined by anyOf");
     let slip = slip.expect("that slip");
-    let fails = |grouping: &Grouping| grouping.run(slip).is_some_and(|ran| ran.alike().is_err());
+    let fails = |grouping: &Grouping| {
+        let ran = grouping.run(&slip.checker);
+        ran.is_some_and(|ran| ran.alike().is_err())
+    };
     let failing = (0..).map(|index| grouping(8, index)).find(fails);
     let failing = failing.expect("a join somewhere");
     let size = |grouping: &Grouping| grouping.grouped().map(|case| case.tables.links.len());
@@ -295,62 +298,45 @@ fn a_failing_grouping_is_made_small() {
     assert!(small.case.tables.nodes.is_empty(), "{small}");
 }
 
-/// Right compiles; a validation's outcome is changed for every other table.
-struct Fickle(fn(&mut Answer, &mut [u32], &mut [u32]));
+/// A change of a refusal's answer and paths.
+type Change = fn(&mut Answer, &mut Paths);
 
-impl Checker for Fickle {
-    fn navigate(&self, tables: &RawTables, node: u32, path: &[u32], key_wanted: bool) -> Answer {
-        Model.navigate(tables, node, path, key_wanted)
-    }
-
-    fn validate(
-        &self,
-        tables: &RawTables,
-        mode: Mode,
-        node: u32,
-        schema: u32,
-        instance: &mut [u32],
-        steps: &mut [u32],
-    ) -> Answer {
-        let mut answer = Model.validate(tables, mode, node, schema, instance, steps);
-        if tables.count(SCHEMAS) % 2 == 1 && (1..=13).contains(&answer.number) {
-            (self.0)(&mut answer, instance, steps);
-        }
-        answer
-    }
-
-    fn compile(&self, tables: &mut RawTables, used: [u32; 3], schema: u32) -> Answer {
-        Model.compile(tables, used, schema)
-    }
+/// Right compiles; a refusal is changed for every other table.
+fn fickle(change: Change) -> impl Checker {
+    altered(
+        move |tables: &RawTables, answer: &mut Answer, paths: &mut Paths| {
+            if tables.count(SCHEMAS) % 2 == 1 && (1..=13).contains(&answer.number) {
+                change(answer, paths);
+            }
+        },
+    )
 }
 
 #[test]
 fn each_part_of_an_answer_is_compared() {
-    let changes: [(&str, Fickle); 9] = [
-        ("number", Fickle(|answer, _, _| answer.number ^= 1)),
-        ("node", Fickle(|answer, _, _| answer.node += 1)),
-        ("schema", Fickle(|answer, _, _| answer.schema = NONE)),
-        ("hint", Fickle(|answer, _, _| answer.hint ^= 1)),
-        ("detail", Fickle(|answer, _, _| answer.detail += 1)),
-        ("detail's word", Fickle(|answer, _, _| answer.a ^= 1)),
-        ("bound", Fickle(|answer, _, _| answer.bound += 1.0)),
-        ("instance path", Fickle(|_, instance, _| instance[127] = 1)),
-        (
-            "schema path",
-            Fickle(|answer, _, _| answer.schema_steps = 0),
-        ),
+    let changes: [(&str, Change); 9] = [
+        ("number", |answer, _| answer.number ^= 1),
+        ("node", |answer, _| answer.node += 1),
+        ("schema", |answer, _| answer.schema = NONE),
+        ("hint", |answer, _| answer.hint ^= 1),
+        ("detail", |answer, _| answer.detail += 1),
+        ("detail's word", |answer, _| answer.a ^= 1),
+        ("bound", |answer, _| answer.bound += 1.0),
+        ("instance path", |_, paths| paths.instance[127] = 1),
+        ("schema path", |answer, _| answer.schema_steps = 0),
     ];
-    for (name, fickle) in changes {
+    for (name, change) in changes {
+        let fickle = fickle(change);
         let noticed = (0..200).find(|&index| {
             let ran = grouping(7, index).run(&fickle).expect("both versions");
             ran.alike().is_err()
         });
         assert!(noticed.is_some(), "another {name} escaped");
     }
-    let all_of_steps = Fickle(|answer, _, steps| {
+    let all_of_steps = fickle(|answer, paths| {
         let at = answer.schema_steps as usize;
-        if at < steps.len() {
-            steps[at] = schema::ALL_OF;
+        if at < paths.steps.len() {
+            paths.steps[at] = schema::ALL_OF;
             answer.schema_steps += 1;
         }
     });

@@ -6,8 +6,7 @@ use quarto_yaml_harness::guard::with_large_stack;
 use quarto_yaml_harness::pattern::faithful;
 use quarto_yaml_model::Model;
 use quarto_yaml_oracle::{Oracle, PRESENT, fit};
-use quarto_yaml_tables::layout::{INSTANCE_WORDS, SCHEMA_WORDS};
-use quarto_yaml_tables::{Checker, Mode};
+use quarto_yaml_tables::{Checker, Mode, Paths, Visit};
 use std::collections::BTreeMap;
 use wheelcheck::message::{code, refusal};
 
@@ -24,15 +23,12 @@ fn refusals_read_as_the_originals() {
                 continue;
             };
             let tables = &case.tables;
-            let (mut instance, mut steps) = ([0; INSTANCE_WORDS], [0; SCHEMA_WORDS]);
-            let answer = Model.validate(
-                tables,
-                Mode::Source,
+            let visit = Visit {
+                mode: Mode::Source,
                 node,
                 schema,
-                &mut instance,
-                &mut steps,
-            );
+            };
+            let answer = Model.validate(tables, visit, &mut Paths::default());
             let asked =
                 (1..=13).contains(&answer.number) && faithful(tables) && fit(tables).is_ok();
             if !asked {

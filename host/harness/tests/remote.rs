@@ -1,7 +1,7 @@
 //! The pipe to the proved library carries every argument and every word back.
 
 use quarto_yaml_harness::remote::{NO_ANSWER, Remote};
-use quarto_yaml_tables::{Call, Checker, Mode, Tables};
+use quarto_yaml_tables::{Call, Checker, Mode, Paths, Tables, Visit};
 use std::path::{Path, PathBuf};
 use std::process::Command;
 
@@ -89,11 +89,20 @@ fn every_argument_travels() {
     assert_eq!(ended.number, NO_ANSWER);
 
     for (mode, number) in [(Mode::Unnamed, 0), (Mode::Source, 1), (Mode::Standard, 2)] {
-        let (mut instance, mut steps) = (vec![11; 3], vec![12; 4]);
-        let answer = remote.validate(&raw, mode, 4, 5, &mut instance, &mut steps);
+        let mut paths = Paths {
+            instance: vec![11; 3],
+            steps: vec![12; 4],
+        };
+        let visit = Visit {
+            mode,
+            node: 4,
+            schema: 5,
+        };
+        let answer = remote.validate(&raw, visit, &mut paths);
         assert_eq!(answer.words()[..7], [number, 4, 5, 3, 4, 11, 12]);
         assert!(answer.bound.is_sign_negative());
-        assert_eq!((instance, steps), (vec![5, 11, 11], vec![12, 12, 12, 6]));
+        assert_eq!(paths.instance, [5, 11, 11]);
+        assert_eq!(paths.steps, [12, 12, 12, 6]);
     }
 
     let answer = remote.compile(&mut raw, [21, 22, 23], 24);

@@ -19,7 +19,7 @@ pub use json::{Equality, equal};
 pub use merge::merge;
 pub use room::Room;
 
-use quarto_yaml_tables::{Answer, Checker, Mode, RawTables};
+use quarto_yaml_tables::{Answer, Checker, Paths, RawTables, Visit};
 
 /// The second judge.
 #[derive(Clone, Copy, Debug, Default)]
@@ -30,16 +30,8 @@ impl Checker for Model {
         navigate::navigate(tables, node, path, key_wanted)
     }
 
-    fn validate(
-        &self,
-        tables: &RawTables,
-        mode: Mode,
-        node: u32,
-        schema: u32,
-        instance: &mut [u32],
-        steps: &mut [u32],
-    ) -> Answer {
-        visit::validate(tables, mode, node, schema, instance, steps)
+    fn validate(&self, tables: &RawTables, visit: Visit, paths: &mut Paths) -> Answer {
+        visit::validate(tables, visit, paths)
     }
 
     fn compile(&self, tables: &mut RawTables, used: [u32; 3], schema: u32) -> Answer {

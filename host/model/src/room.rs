@@ -1,7 +1,7 @@
 //! The room that compiling appends to.
 
 use quarto_yaml_tables::RawTables;
-use quarto_yaml_tables::layout::{LINKS, NOTES, SCHEMAS, Table};
+use quarto_yaml_tables::layout::{GROWING, LINKS, NOTES, SCHEMAS, Table};
 
 /// Tables 3, 4 and 7 with how much of each is in use.
 pub struct Room<'a> {
@@ -48,7 +48,7 @@ impl Room<'_> {
 
     /// Zeroes every lent word past the used counts, ragged tails included.
     pub fn clear(&mut self, used: [u32; 3]) {
-        for (table, used) in [NOTES, SCHEMAS, LINKS].into_iter().zip(used) {
+        for (table, used) in GROWING.into_iter().zip(used) {
             let start = used as usize * table.words;
             self.tables.words_mut(table)[start..].fill(0);
         }

@@ -3,17 +3,12 @@
 use crate::check::check;
 use crate::json::{Equality, equal};
 use quarto_yaml_tables::layout::{INSTANCE_WORDS, LEVELS, NONE, SCHEMA_WORDS, node, note, schema};
-use quarto_yaml_tables::{Answer, Detail, Mode, RawTables};
+use quarto_yaml_tables::{Answer, Detail, Mode, Paths, RawTables, Visit};
 
 /// Checks a node against a schema; both buffers are written to their ends.
-pub fn validate(
-    tables: &RawTables,
-    mode: Mode,
-    node: u32,
-    schema: u32,
-    instance: &mut [u32],
-    steps: &mut [u32],
-) -> Answer {
+pub fn validate(tables: &RawTables, visit: Visit, paths: &mut Paths) -> Answer {
+    let Visit { mode, node, schema } = visit;
+    let Paths { instance, steps } = paths;
     let short = instance.len() < INSTANCE_WORDS || steps.len() < SCHEMA_WORDS;
     instance.fill(0);
     steps.fill(0);

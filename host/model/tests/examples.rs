@@ -3,33 +3,26 @@
 use quarto_yaml_model::Model;
 use quarto_yaml_tables::layout::{INSTANCE_WORDS, NONE, SCHEMA_WORDS, schema};
 use quarto_yaml_tables::{
-    Answer, ArrayRules, Checker, Detail, Mode, Node, NumberRules, ObjectRules, PatternAnswer,
-    Schema, StringRules, TableError, Tables,
+    Answer, ArrayRules, Checker, Detail, Mode, Node, NumberRules, ObjectRules, Paths,
+    PatternAnswer, Schema, StringRules, TableError, Tables, Visit,
 };
 
 /// The answer and the schema path.
 fn validate(tables: &Tables, mode: Mode, node: Node, schema: Schema) -> (Answer, Vec<u32>) {
-    let mut instance = [7; INSTANCE_WORDS];
-    let mut steps = [7; SCHEMA_WORDS];
-    let answer = Model.validate(
-        tables.raw(),
+    let mut paths = Paths::of(7, [INSTANCE_WORDS, SCHEMA_WORDS]);
+    let visit = Visit {
         mode,
-        node.get(),
-        schema.get(),
-        &mut instance,
-        &mut steps,
-    );
-    assert!(
-        instance[2 * answer.instance_steps as usize..]
-            .iter()
-            .all(|&word| word == 0)
-    );
-    assert!(
-        steps[answer.schema_steps as usize..]
-            .iter()
-            .all(|&word| word == 0)
-    );
-    (answer, steps[..answer.schema_steps as usize].to_vec())
+        node: node.get(),
+        schema: schema.get(),
+    };
+    let answer = Model.validate(tables.raw(), visit, &mut paths);
+    let [instance, steps] = paths.held(&answer);
+    let behind = [
+        &paths.instance[instance.len()..],
+        &paths.steps[steps.len()..],
+    ];
+    assert!(behind.concat().iter().all(|&word| word == 0));
+    (answer, steps.to_vec())
 }
 
 fn number(tables: &Tables, node: Node, schema: Schema) -> u32 {

@@ -6,7 +6,7 @@ use crate::compiled::tree;
 use crate::names;
 use crate::said::{Compiled, Detail, Said, Validated};
 use crate::schemas::{registry, schema};
-use crate::values::{text, value};
+use crate::values::value;
 use quarto_source_map::SourceContext;
 use quarto_yaml::YamlWithSourceInfo;
 use quarto_yaml_tables::layout::NONE;
@@ -24,7 +24,7 @@ pub fn navigate(tables: &RawTables, node: u32, path: &[u32], key_wanted: bool) -
     let mut steps = InstancePath::new();
     for step in path.chunks_exact(2) {
         match step[0] {
-            0 => steps.push_key(text(tables, step[1])),
+            0 => steps.push_key(tables.string(step[1])),
             _ => steps.push_index(step[1] as usize),
         }
     }
@@ -243,7 +243,7 @@ pub fn said(tables: &RawTables, answer: &Answer, instance: &[u32], steps: &[u32]
 
 fn printed(tables: &RawTables, step: &[u32]) -> String {
     match step[0] {
-        0 => text(tables, step[1]),
+        0 => tables.string(step[1]),
         1 => format!("[{}]", step[1]),
         tag => format!("?{tag}"),
     }
@@ -262,15 +262,15 @@ fn detail_said(tables: &RawTables, answer: &Answer) -> Detail {
             names::at(&names::NODE, found),
         ),
         Some(Given::Property(property, schema)) => missing(tables, property, schema),
-        Some(Given::Key(key)) => Detail::Text(text(tables, key)),
+        Some(Given::Key(key)) => Detail::Text(tables.string(key)),
         Some(Given::Count(count, limit)) => broken(count as usize, limit as usize),
         Some(Given::Multiple(value, multiple)) => {
             Detail::Multiple(value.to_bits(), multiple.to_bits())
         }
         Some(Given::Pattern(subject, pattern)) => {
-            Detail::Pattern(text(tables, subject), text(tables, pattern))
+            Detail::Pattern(tables.string(subject), tables.string(pattern))
         }
-        Some(Given::Reference(name)) => Detail::Text(text(tables, name)),
+        Some(Given::Reference(name)) => Detail::Text(tables.string(name)),
         Some(Given::BelowMinimum(value, bound)) => range(0, value, bound),
         Some(Given::AboveMaximum(value, bound)) => range(1, value, bound),
         Some(Given::AtOrBelowExclusiveMinimum(value, bound)) => range(2, value, bound),
@@ -290,7 +290,7 @@ fn broken(count: usize, limit: usize) -> Detail {
 
 /// What a missing property advertises, by its schema's record.
 fn missing(tables: &RawTables, property: u32, number: u32) -> Detail {
-    let property = text(tables, property);
+    let property = tables.string(property);
     if number == NONE {
         return Detail::Missing(property, None, None);
     }

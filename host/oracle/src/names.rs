@@ -1,15 +1,7 @@
 //! The names that the original gives to kinds.
 
-/// Names of schema kinds, by their number.
-pub const SCHEMA: [&str; 12] = [
-    "true", "boolean", "number", "string", "null", "enum", "any", "anyOf", "allOf", "array",
-    "object", "$ref",
-];
-
-/// Names that nodes answer under, by their kind's number.
-pub const NODE: [&str; 9] = [
-    "null", "boolean", "integer", "float", "string", "array", "object", "alias", "null",
-];
+pub use quarto_yaml_tables::layout::node::TYPE_NAMES as NODE;
+pub use quarto_yaml_tables::layout::schema::TYPE_NAMES as SCHEMA;
 
 /// The name at a number, or a mark that no name equals.
 pub fn at(names: &[&str], number: u32) -> String {

@@ -76,7 +76,7 @@ fn sizes(tables: &RawTables) -> Result<(), Unfit> {
     let mut of_schema: Vec<u64> = Vec::new();
     for number in 0..schemas {
         let words = tables.schema(number);
-        let parts = parts(tables, &words);
+        let parts = tables.parts(number);
         let listed = match words[0] {
             schema::ENUM => tables.list(words[2], words[3]),
             _ => &[],
@@ -96,29 +96,4 @@ fn sizes(tables: &RawTables) -> Result<(), Unfit> {
 
 fn total(sizes: impl Iterator<Item = u64>) -> u64 {
     sizes.fold(1, u64::saturating_add)
-}
-
-/// The schemas that a record holds, bases too.
-fn parts(tables: &RawTables, words: &[u32; 16]) -> Vec<u32> {
-    match words[0] {
-        schema::ANY_OF | schema::ALL_OF => tables.list(words[2], words[3]).to_vec(),
-        schema::ARRAY => vec![words[2]],
-        schema::OBJECT => {
-            let mut parts = vec![words[schema::ADDITIONAL], words[schema::NAMES]];
-            for place in [schema::PROPERTIES, schema::PATTERN_PROPERTIES] {
-                parts.extend(
-                    tables
-                        .pairs(words[place], words[place + 1])
-                        .map(|pair| pair.1),
-                );
-            }
-            let place = schema::BASES;
-            parts.extend(tables.list(words[place], words[place + 1]));
-            parts
-        }
-        _ => Vec::new(),
-    }
-    .into_iter()
-    .filter(|&part| part != NONE)
-    .collect()
 }

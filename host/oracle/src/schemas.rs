@@ -1,7 +1,7 @@
 //! Schema records as the original's schemas.
 
 use crate::annotations::{annotations, naming};
-use crate::values::{text, value};
+use crate::values::value;
 use quarto_yaml_tables::RawTables;
 use quarto_yaml_tables::layout::{NONE, schema as kind};
 use quarto_yaml_validation::schema::{
@@ -15,7 +15,7 @@ use std::collections::HashMap;
 pub fn registry(tables: &RawTables) -> SchemaRegistry {
     let mut registry = SchemaRegistry::new();
     for entry in tables.registry.chunks_exact(2) {
-        registry.register(text(tables, entry[0]), schema(tables, entry[1]));
+        registry.register(tables.string(entry[0]), schema(tables, entry[1]));
     }
     registry
 }
@@ -44,7 +44,7 @@ pub fn schema(tables: &RawTables, number: u32) -> Schema {
             annotations,
             min_length: count(2),
             max_length: count(3),
-            pattern: (words[4] != NONE).then(|| text(tables, words[4])),
+            pattern: (words[4] != NONE).then(|| tables.string(words[4])),
         }),
         kind::NULL => Schema::Null(NullSchema { annotations }),
         kind::ENUM => Schema::Enum(EnumSchema {
@@ -79,7 +79,7 @@ pub fn schema(tables: &RawTables, number: u32) -> Schema {
             required: tables
                 .list(words[kind::REQUIRED], words[kind::REQUIRED + 1])
                 .iter()
-                .map(|&required| text(tables, required))
+                .map(|&required| tables.string(required))
                 .collect(),
             min_properties: count(kind::MINIMUM),
             max_properties: count(kind::MAXIMUM),
@@ -91,7 +91,7 @@ pub fn schema(tables: &RawTables, number: u32) -> Schema {
         }),
         kind::REF => Schema::Ref(RefSchema {
             annotations,
-            reference: text(tables, words[2]),
+            reference: tables.string(words[2]),
             eager: words[3] == 1,
         }),
         _ => Schema::True,
@@ -110,6 +110,6 @@ fn optional(tables: &RawTables, number: u32) -> Option<Box<Schema>> {
 fn keyed(tables: &RawTables, words: &[u32; 16], place: usize) -> HashMap<String, Schema> {
     tables
         .pairs(words[place], words[place + 1])
-        .map(|(key, part)| (text(tables, key), schema(tables, part)))
+        .map(|(key, part)| (tables.string(key), schema(tables, part)))
         .collect()
 }

@@ -5,11 +5,6 @@ use quarto_yaml::{Yaml, YamlHashEntry, YamlWithSourceInfo, yaml::Hash};
 use quarto_yaml_tables::RawTables;
 use quarto_yaml_tables::layout::{NONE, node};
 
-/// A text as the original's string.
-pub fn text(tables: &RawTables, number: u32) -> String {
-    String::from_utf8_lossy(tables.text(number)).into_owned()
-}
-
 /// A node and all below it; each carries its number as its offset.
 pub fn value(tables: &RawTables, number: u32) -> YamlWithSourceInfo {
     let [kind, a, b, _] = tables.node(number);
@@ -18,7 +13,7 @@ pub fn value(tables: &RawTables, number: u32) -> YamlWithSourceInfo {
         node::BOOLEAN => Yaml::Boolean(a == 1),
         node::INTEGER => Yaml::Integer(tables.numbers[a as usize] as i64),
         node::REAL => Yaml::Real(real(tables, a, b)),
-        node::STRING => Yaml::String(text(tables, a)),
+        node::STRING => Yaml::String(tables.string(a)),
         node::ARRAY => {
             let items: Vec<_> = tables
                 .list(a, b)

@@ -123,6 +123,11 @@ impl Answer {
         }
     }
 
+    /// The used counts of notes, schemas and links.
+    pub fn used(&self) -> [u32; 3] {
+        [self.used_notes, self.used_schemas, self.used_links]
+    }
+
     /// The answer's words in order, each f64 as its low and then its high half.
     pub fn words(&self) -> [u32; Self::WORDS] {
         let [value, bound] = [self.value.to_bits(), self.bound.to_bits()];

@@ -1,6 +1,8 @@
 //! The proved library over its C boundary.
 
-use crate::{Answer, Call, Checker, Mode, RawTables};
+#[cfg(feature = "library-validate")]
+use crate::Mode;
+use crate::{Answer, Call, Checker, Paths, RawTables, Visit};
 use std::ops::Range;
 
 /// A part of the pool, `qy_span` of the C header.
@@ -152,17 +154,10 @@ impl Checker for Library {
     }
 
     #[cfg(feature = "library-validate")]
-    fn validate(
-        &self,
-        tables: &RawTables,
-        mode: Mode,
-        node: u32,
-        schema: u32,
-        instance: &mut [u32],
-        steps: &mut [u32],
-    ) -> Answer {
-        let (i, il) = (instance.as_mut_ptr(), instance.len());
-        let (s, sl) = (steps.as_mut_ptr(), steps.len());
+    fn validate(&self, tables: &RawTables, visit: Visit, paths: &mut Paths) -> Answer {
+        let Visit { mode, node, schema } = visit;
+        let (i, il) = (paths.instance.as_mut_ptr(), paths.instance.len());
+        let (s, sl) = (paths.steps.as_mut_ptr(), paths.steps.len());
         match mode {
             Mode::Unnamed => call!(qy_validate, tables, node, schema, i, il, s, sl),
             Mode::Source => call!(qy_validate_source, tables, node, schema, i, il, s, sl),
@@ -171,15 +166,7 @@ impl Checker for Library {
     }
 
     #[cfg(not(feature = "library-validate"))]
-    fn validate(
-        &self,
-        _: &RawTables,
-        _: Mode,
-        _: u32,
-        _: u32,
-        _: &mut [u32],
-        _: &mut [u32],
-    ) -> Answer {
+    fn validate(&self, _: &RawTables, _: Visit, _: &mut Paths) -> Answer {
         unimplemented!("built without the library's validation")
     }
 

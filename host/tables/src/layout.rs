@@ -59,11 +59,19 @@ pub const ALL: [Table; 8] = [
 /// The seven tables of 32-bit words.
 pub const WORD_TABLES: [Table; 7] = [TEXTS, NODES, NOTES, SCHEMAS, REGISTRY, PATTERNS, LINKS];
 
+/// The tables that compiling appends to, in the order of the used counts.
+pub const GROWING: [Table; 3] = [NOTES, SCHEMAS, LINKS];
+
 /// The number that answer 20 gives for navigation's path.
 pub const PATH: u32 = 9;
 
 /// Kinds of nodes.
 pub mod node {
+    /// The name that each kind answers under.
+    pub const TYPE_NAMES: [&str; 9] = [
+        "null", "boolean", "integer", "float", "string", "array", "object", "alias", "null",
+    ];
+
     /// The null value.
     pub const NULL: u32 = 0;
     /// A boolean; a is 0 or 1.
@@ -100,6 +108,12 @@ pub mod note {
 
 /// Kinds of schemas, and the places of their words.
 pub mod schema {
+    /// The name of each kind.
+    pub const TYPE_NAMES: [&str; 12] = [
+        "true", "boolean", "number", "string", "null", "enum", "any", "anyOf", "allOf", "array",
+        "object", "$ref",
+    ];
+
     /// Accepts everything; has no note.
     pub const TRUE: u32 = 0;
     /// Booleans.

@@ -30,7 +30,7 @@ mod schemas;
 mod tables;
 
 pub use answer::{Answer, Detail, detail};
-pub use checker::{Call, Checker, Mode};
+pub use checker::{Call, Checker, Mode, Paths, Visit};
 pub use error::TableError;
 pub use ids::{Node, Note, Schema, Text};
 pub use notes::NoteFields;

@@ -1,6 +1,6 @@
 //! The lent words themselves, in any state.
 
-use crate::layout::{self, NODES, NOTES, SCHEMAS, TEXTS, Table};
+use crate::layout::{self, GROWING, NODES, NONE, NOTES, SCHEMAS, TEXTS, Table, schema};
 
 /// The pool and the eight tables as they are lent: any words at all.
 #[derive(Clone, Debug, Default, PartialEq, Eq)]
@@ -60,6 +60,21 @@ impl RawTables {
         self.words(table).len() / table.words
     }
 
+    /// Whole records in the tables that compiling appends to.
+    pub fn used(&self) -> [u32; 3] {
+        GROWING.map(|table| self.count(table) as u32)
+    }
+
+    /// The tables with so many records of those that compiling appends to, at most.
+    pub fn cut(&self, used: [u32; 3]) -> Self {
+        let mut tables = self.clone();
+        for (table, used) in GROWING.into_iter().zip(used) {
+            let end = (used as usize).saturating_mul(table.words);
+            tables.words_mut(table).truncate(end);
+        }
+        tables
+    }
+
     fn record<const WIDTH: usize>(&self, table: Table, record: u32) -> [u32; WIDTH] {
         let start = (record as usize).saturating_mul(WIDTH);
         let words = self.words(table);
@@ -94,6 +109,33 @@ impl RawTables {
         let end = self.links.len();
         let first = (first as usize).min(end);
         &self.links[first..first.saturating_add(count as usize).min(end)]
+    }
+
+    /// The schemas that a schema record holds, bases too.
+    pub fn parts(&self, schema: u32) -> Vec<u32> {
+        let words = self.schema(schema);
+        let mut parts = match words[0] {
+            schema::ANY_OF | schema::ALL_OF => self.list(words[2], words[3]).to_vec(),
+            schema::ARRAY => vec![words[2]],
+            schema::OBJECT => {
+                let [first, count] = [words[schema::BASES], words[schema::BASES + 1]];
+                let mut parts = self.list(first, count).to_vec();
+                for place in [schema::PROPERTIES, schema::PATTERN_PROPERTIES] {
+                    let pairs = self.pairs(words[place], words[place + 1]);
+                    parts.extend(pairs.map(|(_, part)| part));
+                }
+                parts.extend([words[schema::ADDITIONAL], words[schema::NAMES]]);
+                parts
+            }
+            _ => Vec::new(),
+        };
+        parts.retain(|&part| part != NONE);
+        parts
+    }
+
+    /// A text as a string.
+    pub fn string(&self, text: u32) -> String {
+        String::from_utf8_lossy(self.text(text)).into_owned()
     }
 
     /// The pairs of links of a list, cut off at the table's end.

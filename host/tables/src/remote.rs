@@ -3,8 +3,8 @@
 //! Its archive is for x86-64, so `serve/serve.c` stands between; where this
 //! runs on another processor that program runs under an emulator.
 
-use crate::layout::{self, LINKS, NOTES, SCHEMAS, WORD_TABLES};
-use crate::{Answer, Call, Checker, Mode, RawTables};
+use crate::layout::{GROWING, WORD_TABLES};
+use crate::{Answer, Call, Checker, Paths, RawTables, Visit};
 use std::cell::RefCell;
 use std::io::{self, BufReader, BufWriter, Read, Write};
 use std::path::{Path, PathBuf};
@@ -154,7 +154,8 @@ impl Drop for Running {
     }
 }
 
-fn bytes(words: &[u32]) -> Vec<u8> {
+/// Words as bytes, low end first.
+pub fn bytes(words: &[u32]) -> Vec<u8> {
     words.iter().flat_map(|word| word.to_le_bytes()).collect()
 }
 
@@ -175,12 +176,12 @@ fn request(call: u32, tables: &RawTables, arguments: &[&[u32]]) -> Vec<u8> {
     out
 }
 
-/// A request to validate in source mode, with path buffers of the least size.
-pub fn validate_request(tables: &RawTables, node: u32, schema: u32) -> Vec<u8> {
-    let (instance, steps) = ([0; layout::INSTANCE_WORDS], [0; layout::SCHEMA_WORDS]);
-    let sizes = [instance.len() as u32, steps.len() as u32];
-    let head = [Mode::Source.number(), node, schema, sizes[0], sizes[1]];
-    request(1, tables, &[&head, &instance, &steps])
+/// A request to validate.
+pub fn validation(tables: &RawTables, visit: Visit, paths: &Paths) -> Vec<u8> {
+    let Visit { mode, node, schema } = visit;
+    let sizes = [paths.instance.len() as u32, paths.steps.len() as u32];
+    let head = [mode.number(), node, schema, sizes[0], sizes[1]];
+    request(1, tables, &[&head, &paths.instance, &paths.steps])
 }
 
 impl Checker for Remote {
@@ -189,29 +190,18 @@ impl Checker for Remote {
         self.ask(&request(0, tables, &[&head, path]), &mut [])
     }
 
-    fn validate(
-        &self,
-        tables: &RawTables,
-        mode: Mode,
-        node: u32,
-        schema: u32,
-        instance: &mut [u32],
-        steps: &mut [u32],
-    ) -> Answer {
-        let sizes = [instance.len() as u32, steps.len() as u32];
-        let head = [mode.number(), node, schema, sizes[0], sizes[1]];
-        let request = request(1, tables, &[&head, instance, steps]);
-        self.ask(&request, &mut [instance, steps])
+    fn validate(&self, tables: &RawTables, visit: Visit, paths: &mut Paths) -> Answer {
+        let request = validation(tables, visit, paths);
+        self.ask(&request, &mut [&mut paths.instance, &mut paths.steps])
     }
 
     fn compile(&self, tables: &mut RawTables, used: [u32; 3], schema: u32) -> Answer {
         let request = request(2, tables, &[&used, &[schema]]);
-        let [notes, schemas, links] =
-            [NOTES, SCHEMAS, LINKS].map(|table| std::mem::take(tables.words_mut(table)));
+        let [notes, schemas, links] = GROWING.map(|table| std::mem::take(tables.words_mut(table)));
         let mut room = [notes, schemas, links];
         let [notes, schemas, links] = &mut room;
         let answer = self.ask(&request, &mut [notes, schemas, links]);
-        for (table, words) in [NOTES, SCHEMAS, LINKS].into_iter().zip(room) {
+        for (table, words) in GROWING.into_iter().zip(room) {
             *tables.words_mut(table) = words;
         }
         answer

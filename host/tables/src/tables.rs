@@ -28,6 +28,17 @@ pub enum PatternAnswer {
     Invalid,
 }
 
+impl PatternAnswer {
+    /// The answer's number in table 6.
+    pub fn number(self) -> u32 {
+        match self {
+            Self::NoMatch => 0,
+            Self::Match => 1,
+            Self::Invalid => 2,
+        }
+    }
+}
+
 impl Tables {
     /// Empty tables.
     pub fn new() -> Self {
@@ -100,12 +111,8 @@ impl Tables {
         subject: Text,
         answer: PatternAnswer,
     ) -> Result<(), TableError> {
-        let answer = match answer {
-            PatternAnswer::NoMatch => 0,
-            PatternAnswer::Match => 1,
-            PatternAnswer::Invalid => 2,
-        };
-        let words = [self.known_text(pattern)?, self.known_text(subject)?, answer];
+        let [pattern, subject] = [self.known_text(pattern)?, self.known_text(subject)?];
+        let words = [pattern, subject, answer.number()];
         self.append(layout::PATTERNS, &words).map(drop)
     }
 
@@ -113,21 +120,16 @@ impl Tables {
     ///
     /// A refusal is handed back and keeps nothing; the tables are then as before.
     pub fn compile(&mut self, checker: &dyn Checker, schema: Schema) -> Result<Schema, Answer> {
-        const WRITTEN: [Table; 3] = [layout::NOTES, layout::SCHEMAS, layout::LINKS];
-        let used = WRITTEN.map(|table| self.raw.count(table));
-        for table in WRITTEN {
+        let used = self.raw.used();
+        for table in layout::GROWING {
             let room = table.words * table.most;
             self.raw.words_mut(table).resize(room, 0);
         }
-        let answer = checker.compile(&mut self.raw, used.map(|count| count as u32), schema.0);
-        let after = [answer.used_notes, answer.used_schemas, answer.used_links];
-        for (place, table) in WRITTEN.into_iter().enumerate() {
-            let kept = match answer.number {
-                0 => after[place] as usize,
-                _ => used[place],
-            };
-            self.raw.words_mut(table).truncate(table.words * kept);
-        }
+        let answer = checker.compile(&mut self.raw, used, schema.0);
+        self.raw = self.raw.cut(match answer.number {
+            0 => answer.used(),
+            _ => used,
+        });
         match answer.number {
             0 => Ok(Schema(answer.record)),
             _ => Err(answer),

@@ -7,19 +7,14 @@ use serde_json::{Map, Number, Value};
 
 /// A schema kind's name, from "true" to "$ref".
 pub fn schema_name(kind: u32) -> &'static str {
-    const NAMES: [&str; 12] = [
-        "true", "boolean", "number", "string", "null", "enum", "any", "anyOf", "allOf", "array",
-        "object", "$ref",
-    ];
-    NAMES.get(kind as usize).copied().unwrap_or("unknown")
+    let name = schema::TYPE_NAMES.get(kind as usize);
+    name.copied().unwrap_or("unknown")
 }
 
 /// The name of a node kind's type.
 pub fn node_name(kind: u32) -> &'static str {
-    const NAMES: [&str; 9] = [
-        "null", "boolean", "integer", "float", "string", "array", "object", "alias", "null",
-    ];
-    NAMES.get(kind as usize).copied().unwrap_or("unknown")
+    let name = node::TYPE_NAMES.get(kind as usize);
+    name.copied().unwrap_or("unknown")
 }
 
 /// The answer's number in words, for summaries.
@@ -83,11 +78,6 @@ pub fn invalid_pattern(pattern: &str, error: &regex::Error) -> String {
     format!("Invalid regex pattern '{pattern}': {reason}")
 }
 
-/// A text as a string.
-pub fn text(tables: &RawTables, number: u32) -> String {
-    String::from_utf8_lossy(tables.text(number)).into_owned()
-}
-
 /// What a refusal from 1 to 13 says.
 pub fn refusal(tables: &RawTables, answer: &Answer) -> String {
     let detail = answer.detail().unwrap_or(Detail::Empty);
@@ -96,7 +86,7 @@ pub fn refusal(tables: &RawTables, answer: &Answer) -> String {
             format!("Expected {}, got {}", schema_name(expected), node_name(got))
         }
         (2, Detail::Property(property, part)) => missing(tables, property, part),
-        (3, Detail::Key(key)) => format!("Unknown property '{}'", text(tables, key)),
+        (3, Detail::Key(key)) => format!("Unknown property '{}'", tables.string(key)),
         (4, _) => {
             let words = tables.schema(answer.schema);
             let allowed = allowed(tables, &words).join(", ");
@@ -120,7 +110,7 @@ pub fn refusal(tables: &RawTables, answer: &Answer) -> String {
         }
         (7, Detail::Count(count, limit)) => outside("String length", count, limit),
         (8, Detail::Pattern(subject, pattern)) => {
-            let [subject, pattern] = [subject, pattern].map(|number| text(tables, number));
+            let [subject, pattern] = [subject, pattern].map(|number| tables.string(number));
             format!("String '{subject}' does not match pattern '{pattern}'")
         }
         (9, Detail::Count(count, limit)) => outside("Array length", count, limit),
@@ -130,9 +120,9 @@ pub fn refusal(tables: &RawTables, answer: &Answer) -> String {
             format!("Object has {count} properties, {side} {limit}")
         }
         (12, Detail::Reference(name)) => {
-            format!("Unresolved schema reference: {}", text(tables, name))
+            format!("Unresolved schema reference: {}", tables.string(name))
         }
-        (13, Detail::Key(key)) => format!("Duplicate key '{}'", text(tables, key)),
+        (13, Detail::Key(key)) => format!("Duplicate key '{}'", tables.string(key)),
         (number, _) => answer_name(number).to_string(),
     }
 }
@@ -152,7 +142,7 @@ fn outside(what: &str, count: u32, limit: u32) -> String {
 
 /// A missing property, with what it should have been where its schema says so.
 fn missing(tables: &RawTables, property: u32, part: u32) -> String {
-    let start = format!("Missing required property '{}'", text(tables, property));
+    let start = format!("Missing required property '{}'", tables.string(property));
     if part == NONE {
         return start;
     }
@@ -215,7 +205,7 @@ pub fn json(tables: &RawTables, number: u32) -> Value {
             .get(b as usize)
             .and_then(|&bits| Number::from_f64(f64::from_bits(bits)))
             .map_or(Value::Null, Value::Number),
-        node::STRING => Value::String(text(tables, a)),
+        node::STRING => Value::String(tables.string(a)),
         node::ARRAY => {
             let items = tables.list(a, b);
             Value::Array(items.iter().map(|&item| json(tables, item)).collect())
@@ -225,7 +215,7 @@ pub fn json(tables: &RawTables, number: u32) -> Value {
             for (key, value) in tables.pairs(a, b) {
                 let [kind, name, ..] = tables.node(key);
                 if kind == node::STRING {
-                    map.insert(text(tables, name), json(tables, value));
+                    map.insert(tables.string(name), json(tables, value));
                 }
             }
             Value::Object(map)
@@ -245,7 +235,7 @@ pub fn compile_refusal(tables: &RawTables, number: u32, culprit: Option<u32>) ->
             format!("Base schema must be an object schema, got {kind}")
         }
         (32, Some(words)) => {
-            let name = text(tables, words[2]);
+            let name = tables.string(words[2]);
             format!("Cannot resolve eager reference '{name}' - not found in registry")
         }
         (33, _) => "The compiled schemas do not fit the tables".to_string(),

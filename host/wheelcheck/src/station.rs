@@ -6,8 +6,8 @@ use crate::schema::{Located, Schemas};
 use crate::source::{Failure, Place, Source, Trouble};
 use crate::values::{fill, is_nan, too_large};
 use crate::yaml;
-use quarto_yaml_tables::layout::{INSTANCE_WORDS, LEVELS, NONE, SCHEMA_WORDS, schema};
-use quarto_yaml_tables::{Answer, Call, Checker, Mode, RawTables, Schema};
+use quarto_yaml_tables::layout::{LEVELS, NONE, schema};
+use quarto_yaml_tables::{Answer, Call, Checker, Mode, Paths, RawTables, Schema, Visit};
 use regex::Regex;
 
 /// A step into a value.
@@ -153,17 +153,18 @@ impl Station {
             .filter(|(number, _)| is_nan(tables, first + number))
             .map(|(_, &place)| Trouble::at(place, "every number test lets NaN pass"))
             .collect();
-        let mut instance = [0; INSTANCE_WORDS];
-        let mut steps = [0; SCHEMA_WORDS];
-        let answer =
-            self.checker
-                .validate(tables, self.mode, node, schema, &mut instance, &mut steps);
+        let mut paths = Paths::default();
+        let visit = Visit {
+            mode: self.mode,
+            node,
+            schema,
+        };
+        let answer = self.checker.validate(tables, visit, &mut paths);
         report.answer = Some(answer);
         report.verdict = match answer.number {
             0 => Verdict::Accepted,
             1..=14 => {
-                let path = &instance[..2 * answer.instance_steps as usize];
-                let kinds = &steps[..answer.schema_steps as usize];
+                let [path, kinds] = paths.held(&answer);
                 let found = self.found(tables, node, &answer, path);
                 let place = |number: u32| places.get(number.checked_sub(first)? as usize).copied();
                 let message = match answer.number {
@@ -228,7 +229,7 @@ pub fn lacking(checker: &dyn Checker) -> Option<&'static str> {
 
 fn step(tables: &RawTables, pair: &[u32]) -> Step {
     match pair[0] {
-        0 => Step::Key(message::text(tables, pair[1])),
+        0 => Step::Key(tables.string(pair[1])),
         _ => Step::Index(pair[1]),
     }
 }
@@ -240,7 +241,7 @@ fn invalid_patterns(tables: &RawTables, node: u32) -> String {
     let mut messages: Vec<String> = entries
         .filter(|entry| entry[2] == 2 && tables.text(entry[1]) == subject)
         .filter_map(|entry| {
-            let pattern = message::text(tables, entry[0]);
+            let pattern = tables.string(entry[0]);
             let error = Regex::new(&pattern).err()?;
             Some(message::invalid_pattern(&pattern, &error))
         })

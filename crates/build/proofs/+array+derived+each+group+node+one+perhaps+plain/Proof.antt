@@ -31,7 +31,7 @@ use Rattle.build.proofs.+array+derived+each+group+node+one+perhaps+plai
 use Rattle.build.proofs.+array+derived+each+group+node+one+perhaps+plain.Proof.Derived.{derived-field-requires, derived-field-requires-2, derived-cast-each, derived-each-requires, derived-same-length, derived-same-length-2, derived-same-length-3, derived-same-length-4, derived-returns, derived-cast-top, derived-cast-want, derived-add-want, derived-same-length-5, derived-same-length-6, derived-same-length-7, derived-same-length-8, derived-returns-2, derived-objects-requires, derived-same-length-9, derived-same-length-10, derived-same-length-11, derived-same-length-12, derived-returns-3, derived-same-length-13, derived-same-length-14, derived-same-length-15, derived-same-length-16, derived-returns-4, derived-merge-object-schemas-requires, derived-same-length-17, derived-same-length-18, derived-same-length-19, derived-same-length-20, derived-returns-5}
 use Rattle.build.proofs.+array+derived+each+group+node+one+perhaps+plain.Proof.Each.{each-Inv-loop, each-μ-loop, each-cast-lb, each-loop-holds, each-word-requires, each-one-requires, each-same-length, each-same-length-2, each-same-length-3, each-same-length-4, each-returns, each-push-requires, each-add-q, each-add-i, each-loop-less, each-loop-again, each-same-length-5, each-same-length-6, each-same-length-7, each-same-length-8, each-returns-2}
 use Rattle.build.proofs.+array+derived+each+group+node+one+perhaps+plain.Proof.Group.{group-field-requires, group-field-requires-2, group-field-requires-3, group-field-requires-4, group-cast-each, group-each-requires, group-same-length, group-same-length-2, group-same-length-3, group-same-length-4, group-returns, group-put-list-requires, group-add-t48, group-finish-requires, group-same-length-5, group-same-length-6, group-same-length-7, group-same-length-8, group-returns-2, group-same-length-9, group-same-length-10, group-same-length-11, group-same-length-12, group-returns-3}
-use Rattle.build.proofs.+array+derived+each+group+node+one+perhaps+plain.Proof.Node.{node-field-requires, node-array-requires, node-same-length, node-same-length-2, node-same-length-3, node-same-length-4, node-returns, node-field-requires-2, node-plain-requires, node-same-length-5, node-same-length-6, node-same-length-7, node-same-length-8, node-returns-2, node-derived-requires, node-same-length-9, node-same-length-10, node-same-length-11, node-same-length-12, node-returns-3, node-group-requires, node-same-length-13, node-same-length-14, node-same-length-15, node-same-length-16, node-returns-4}
+use Rattle.build.proofs.+array+derived+each+group+node+one+perhaps+plain.Proof.Node.{node-field-requires, node-array-requires, node-same-length, node-same-length-2, node-same-length-3, node-same-length-4, node-returns, node-is-plain-requires, node-plain-requires, node-same-length-5, node-same-length-6, node-same-length-7, node-same-length-8, node-returns-2, node-derived-requires, node-same-length-9, node-same-length-10, node-same-length-11, node-same-length-12, node-returns-3, node-group-requires, node-same-length-13, node-same-length-14, node-same-length-15, node-same-length-16, node-returns-4}
 use Rattle.build.proofs.+array+derived+each+group+node+one+perhaps+plain.Proof.One.{one-chase-requires, one-enum-known-n, one-enum-known-no, one-enum-known-t, one-node-requires, one-same-length, one-returns, one-same-length-2, one-returns-2, one-same-length-3, one-same-length-4, one-same-length-5, one-same-length-6, one-returns-3}
 use Rattle.build.proofs.+array+derived+each+group+node+one+perhaps+plain.Proof.Perhaps.{perhaps-returns, perhaps-one-requires, perhaps-same-length, perhaps-same-length-2, perhaps-same-length-3, perhaps-same-length-4, perhaps-returns-2}
 use Rattle.build.proofs.+array+derived+each+group+node+one+perhaps+plain.Proof.Plain.{plain-field-requires, plain-field-requires-2, plain-field-requires-3, plain-field-requires-4, plain-field-requires-5, plain-field-requires-6, plain-cast-each, plain-add-each, plain-each-requires, plain-same-length, plain-same-length-2, plain-same-length-3, plain-same-length-4, plain-returns, plain-cast-each-2, plain-add-each-2, plain-each-requires-2, plain-same-length-5, plain-same-length-6, plain-same-length-7, plain-same-length-8, plain-returns-2, plain-perhaps-requires, plain-same-length-9, plain-same-length-10, plain-same-length-11, plain-same-length-12, plain-returns-3, plain-perhaps-requires-2, plain-same-length-13, plain-same-length-14, plain-same-length-15, plain-same-length-16, plain-returns-4, plain-put-object-requires, plain-same-length-17, plain-same-length-18, plain-same-length-19, plain-same-length-20, plain-returns-5}
@@ -157,7 +157,7 @@ pub +array+derived+each+group+node+one+perhaps+plain-spec : {M : Type 1} → sta
     (node-same-length-3 t)
     (node-same-length-4 t)
     (node-returns t)
-    (node-field-requires-2 t)
+    (node-is-plain-requires t)
     (node-plain-requires t)
     (node-same-length-5 t)
     (node-same-length-6 t)

@@ -21,8 +21,8 @@ clear-requires-2 c κs = search needs
 enum-told : tie.Need-enum-told
 enum-told c = search needs
 
-visit-requires : tie.Need-visit-requires
-visit-requires c κs = let st = ends.started _ _ _ _ _ _ (c .before .before .before .before .begin .ensures) (c .before .before .enum-told .given .1) in omega (arith, st .instance, st .schema, st .bytes)
+first-visit-requires : tie.Need-first-visit-requires
+first-visit-requires c κs = let st = ends.started _ _ _ _ _ _ (c .before .before .before .before .begin .ensures) (c .before .before .enum-told .given .1) in omega (arith, st .instance, st .schema, st .bytes)
 
 finish-requires : tie.Need-finish-requires
 finish-requires c κs = search needs
@@ -43,7 +43,7 @@ same-length-4 : tie.Need-same-length-4
 same-length-4 c = search needs
 
 returns-2 : tie.Need-returns-2
-returns-2 c = let st = ends.started _ _ _ _ _ _ (c .before .before .before .before .before .before .before .before .before .before .before .before .before .before .before .before .begin .ensures) (c .before .before .before .before .before .before .before .before .before .before .before .before .before .before .enum-told .given .1) in ends.finished _ _ _ _ _ _ _ _ _ (c .before .before .before .before .before .before .before .before .before .before .before .visit .ensures) (st .instance) (st .schema) (c .before .before .before .before .finish .ensures) ∙ sym (ends.validate-work _ _ _ _ _ _ _ (c .before .before .before .before .before .before .before .before .before .before .before .before .before .before .before .before .begin .ensures) (c .before .before .before .before .before .before .before .before .before .before .before .before .before .before .enum-told .given .1))
+returns-2 c = let st = ends.started _ _ _ _ _ _ (c .before .before .before .before .before .before .before .before .before .before .before .before .before .before .before .before .begin .ensures) (c .before .before .before .before .before .before .before .before .before .before .before .before .before .before .enum-told .given .1) in ends.finished _ _ _ _ _ _ _ _ _ (c .before .before .before .before .before .before .before .before .before .before .before .first-visit .ensures) (st .instance) (st .schema) (c .before .before .before .before .finish .ensures) ∙ sym (ends.validate-work _ _ _ _ _ _ _ (c .before .before .before .before .before .before .before .before .before .before .before .before .before .before .before .before .begin .ensures) (c .before .before .before .before .before .before .before .before .before .before .before .before .before .before .enum-told .given .1))
 
 pub validate-mode-spec : {M : Type 1} → statement M
 validate-mode-spec =
@@ -54,7 +54,7 @@ validate-mode-spec =
     clear-requires
     clear-requires-2
     enum-told
-    visit-requires
+    first-visit-requires
     finish-requires
     same-length
     same-length-2

@@ -4,9 +4,10 @@
 //! reads it. `bench run NAME` makes the original's call and prints the answer's
 //! number.
 
-use quarto_yaml_harness::remote::validate_request;
+use quarto_yaml_harness::remote::validation;
 use quarto_yaml_harness::workloads::{WORKLOADS, Workload};
 use quarto_yaml_oracle::{PRESENT, Prepared};
+use quarto_yaml_tables::{Mode, Paths, Visit};
 use std::io::Write;
 use std::process::ExitCode;
 
@@ -24,13 +25,7 @@ fn main() -> ExitCode {
         ["run", name] => workload(name).and_then(|workload| run(&workload)),
         _ => Err(USAGE.to_string()),
     };
-    match result {
-        Ok(()) => ExitCode::SUCCESS,
-        Err(message) => {
-            eprintln!("{message}");
-            ExitCode::FAILURE
-        }
-    }
+    quarto_yaml_harness::ended(result)
 }
 
 fn workload(name: &str) -> Result<Workload, String> {
@@ -40,7 +35,12 @@ fn workload(name: &str) -> Result<Workload, String> {
 }
 
 fn request(workload: &Workload) -> Result<(), String> {
-    let bytes = validate_request(&workload.tables, workload.node, workload.schema);
+    let visit = Visit {
+        mode: Mode::Source,
+        node: workload.node,
+        schema: workload.schema,
+    };
+    let bytes = validation(&workload.tables, visit, &Paths::default());
     let written = std::io::stdout().write_all(&bytes);
     written.map_err(|error| error.to_string())
 }

@@ -21,13 +21,7 @@ fn main() -> ExitCode {
             _ => Err(USAGE.to_string()),
         }
     });
-    match result {
-        Ok(()) => ExitCode::SUCCESS,
-        Err(message) => {
-            eprintln!("{message}");
-            ExitCode::FAILURE
-        }
-    }
+    quarto_yaml_harness::ended(result)
 }
 
 fn store(kind: &str, seed: &str, calls: &str, file: &str) -> Result<(), String> {

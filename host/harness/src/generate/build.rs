@@ -238,18 +238,17 @@ impl<'r> Build<'r> {
 
     fn answer_patterns(&mut self) {
         let raw = self.tables.raw();
-        let string = |text: u32| String::from_utf8_lossy(raw.text(text)).into_owned();
         let mut subjects: Vec<String> = raw
             .nodes
             .chunks_exact(4)
             .filter(|words| words[0] == node::STRING)
-            .map(|words| string(words[1]))
+            .map(|words| raw.string(words[1]))
             .collect();
         subjects.sort();
         subjects.dedup();
         let mut pairs = Vec::new();
         for pattern in self.patterns.clone() {
-            let pattern_bytes = string(pattern.get());
+            let pattern_bytes = self.tables.raw().string(pattern.get());
             for subject in &subjects {
                 pairs.push((pattern, pattern_bytes.clone(), subject.clone()));
             }

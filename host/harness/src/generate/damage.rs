@@ -172,7 +172,7 @@ fn spoil_request(case: &mut Case, rng: &mut Rng) {
                 return;
             }
             let place = rng.below(3);
-            let table = [layout::NOTES, layout::SCHEMAS, layout::LINKS][place];
+            let table = layout::GROWING[place];
             let lent = case.tables.count(table) as u32;
             let value = used[place];
             let limit = table.most as u32;

@@ -1,11 +1,11 @@
 //! Compiles at the edges of the room, of the limits and of the used counts.
 
-use super::room::{self, GROWING};
+use super::room;
 use super::{Stream, sound};
 use crate::case::{Case, Request};
 use crate::rng::Rng;
 use quarto_yaml_tables::RawTables;
-use quarto_yaml_tables::layout::{NONE, NOTES, SCHEMAS};
+use quarto_yaml_tables::layout::{GROWING, NONE};
 use std::fmt;
 
 /// What is at its edge; a place is one of table 3, 4 and 7.
@@ -136,7 +136,7 @@ impl fmt::Display for Edge {
 /// A compile at this edge.
 pub fn case(edge: Edge, rng: &mut Rng) -> Case {
     let (mut tables, mut schema, needed) = drawn(edge, rng);
-    let mut used = GROWING.map(|table| tables.count(table) as u32);
+    let mut used = tables.used();
     let mut spare = needed;
     if edge != Edge::Full && rng.percent(50) {
         spare = needed.map(|needed| needed + rng.below(3));
@@ -163,7 +163,11 @@ pub fn case(edge: Edge, rng: &mut Rng) -> Case {
                 if zeros {
                     stains[place] = 0;
                 }
-                filled(&mut tables, place, table.most - left, zeros);
+                let record = match zeros {
+                    true => vec![0; table.words],
+                    false => room::empty(table),
+                };
+                room::fill(&mut tables, table, table.most - left, &record);
                 used[place] = tables.count(table) as u32;
                 spare[place] = left + rng.between(1, 3);
                 ragged[place] = rng.below(table.words);
@@ -188,9 +192,8 @@ pub fn case(edge: Edge, rng: &mut Rng) -> Case {
         _ => {}
     }
     for place in 0..GROWING.len() {
-        let words = tables.words_mut(GROWING[place]);
-        let end = words.len() + spare[place] * GROWING[place].words + ragged[place];
-        words.resize(end, stains[place]);
+        let room = [spare[place], ragged[place]];
+        room::lend(&mut tables, GROWING[place], room, stains[place]);
     }
     Case {
         tables,
@@ -205,7 +208,7 @@ fn drawn(edge: Edge, rng: &mut Rng) -> (RawTables, u32, [usize; 3]) {
         let Request::Compile { used, schema } = request else {
             continue;
         };
-        let tables = room::in_use(&tables, used);
+        let tables = tables.cut(used);
         let near = (0..3).any(|place| tables.count(GROWING[place]) > GROWING[place].most / 2);
         let needed = room::needed(&tables, used, schema);
         let takes = match edge.place() {
@@ -215,20 +218,5 @@ fn drawn(edge: Edge, rng: &mut Rng) -> (RawTables, u32, [usize; 3]) {
         if takes && !near {
             return (tables, schema, needed);
         }
-    }
-}
-
-/// Fills a table with records that are good up to this count.
-fn filled(tables: &mut RawTables, place: usize, count: usize, zeros: bool) {
-    let table = GROWING[place];
-    let mut filler = vec![0; table.words];
-    if table == NOTES && !zeros {
-        filler[..8].fill(NONE);
-    }
-    if table == SCHEMAS {
-        filler[1] = NONE;
-    }
-    while tables.count(table) < count {
-        tables.words_mut(table).extend_from_slice(&filler);
     }
 }

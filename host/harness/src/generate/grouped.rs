@@ -1,11 +1,10 @@
 //! Schemas with long lists of bases, and runs in them.
 
 use super::build::{Build, fits};
-use super::room::GROWING;
 use crate::case::{Case, Request};
 use crate::grouped::{Grouping, Run, bases, regroup};
 use crate::rng::Rng;
-use quarto_yaml_tables::layout::{NONE, REGISTRY, SCHEMAS, node, schema};
+use quarto_yaml_tables::layout::{REGISTRY, SCHEMAS, node, schema};
 use quarto_yaml_tables::{ArrayRules, Node, RawTables, Schema};
 
 /// Schemas that are drawn, at most, for one that has a run.
@@ -48,7 +47,7 @@ fn drawn(rng: &mut Rng) -> Grouping {
     let schema = root.get();
     let runs = runs(&tables, schema, rng);
     let spare = (rng.below(40) == 0).then(|| [rng.below(8), rng.below(12), rng.below(40)]);
-    let used = GROWING.map(|table| tables.count(table) as u32);
+    let used = tables.used();
     Grouping {
         case: Case {
             tables,
@@ -66,11 +65,7 @@ fn another(build: &mut Build<'_>, of: Node) -> Node {
     if kind != node::OBJECT || build.rng.percent(10) {
         return build.variant(of);
     }
-    let links = build.nodes_at(first, 2 * count);
-    let mut entries: Vec<(Node, Node)> = links
-        .chunks_exact(2)
-        .map(|pair| (pair[0], pair[1]))
-        .collect();
+    let mut entries = build.entries_at(first, count);
     for entry in &mut entries {
         if build.rng.percent(25) {
             entry.1 = build.value(1);
@@ -159,26 +154,11 @@ fn with_bases(tables: &RawTables, root: u32, reached: bool) -> Vec<u32> {
 /// The schemas that a record holds or refers to.
 fn children(tables: &RawTables, record: u32) -> Vec<u32> {
     let words = tables.schema(record);
-    let mut found = match words[0] {
-        schema::ANY_OF | schema::ALL_OF => tables.list(words[2], words[3]).to_vec(),
-        schema::ARRAY => vec![words[2]],
-        schema::OBJECT => {
-            let mut found = bases(tables, record).unwrap_or_default();
-            for place in [schema::PROPERTIES, schema::PATTERN_PROPERTIES] {
-                let pairs = tables.pairs(words[place], words[place + 1]);
-                found.extend(pairs.map(|(_, part)| part));
-            }
-            found.extend([words[schema::ADDITIONAL], words[schema::NAMES]]);
-            found
-        }
-        schema::REF => {
-            let name = tables.text(words[2]);
-            let entries = tables.registry.chunks_exact(REGISTRY.words);
-            let named = entries.filter(|entry| tables.text(entry[0]) == name);
-            named.map(|entry| entry[1]).collect()
-        }
-        _ => Vec::new(),
-    };
-    found.retain(|&part| part != NONE);
-    found
+    if words[0] != schema::REF {
+        return tables.parts(record);
+    }
+    let name = tables.text(words[2]);
+    let entries = tables.registry.chunks_exact(REGISTRY.words);
+    let named = entries.filter(|entry| tables.text(entry[0]) == name);
+    named.map(|entry| entry[1]).collect()
 }

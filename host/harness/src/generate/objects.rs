@@ -134,14 +134,19 @@ impl Build<'_> {
                 let parts: Vec<Schema> = (0..self.rng.below(3))
                     .map(|_| self.items_schema(&values, value, depth))
                     .collect();
-                let note = self.rng.percent(20).then(|| self.case_note());
-                let schema = match self.rng.percent(80) {
-                    true => self.tables.all_of(note, &parts),
-                    false => self.tables.any_of(note, &parts),
-                };
-                self.keep_schema(schema)
+                self.join(&parts, true)
             }
         }
+    }
+
+    /// A join, mostly an allOf or mostly an anyOf; few have a note.
+    fn join(&mut self, parts: &[Schema], mostly_all: bool) -> Schema {
+        let note = self.rng.percent(20).then(|| self.case_note());
+        let schema = match self.rng.percent(80) == mostly_all {
+            true => self.tables.all_of(note, parts),
+            false => self.tables.any_of(note, parts),
+        };
+        self.keep_schema(schema)
     }
 
     /// Joined names, some of them over one that detects the case.
@@ -149,12 +154,7 @@ impl Build<'_> {
         let parts: Vec<Schema> = (0..self.rng.below(3))
             .map(|_| self.names_schema())
             .collect();
-        let note = self.rng.percent(20).then(|| self.case_note());
-        let schema = match self.rng.percent(80) {
-            true => self.tables.any_of(note, &parts),
-            false => self.tables.all_of(note, &parts),
-        };
-        self.keep_schema(schema)
+        self.join(&parts, false)
     }
 
     /// A schema for names: some detect the case, some look as if they did.
@@ -198,12 +198,7 @@ impl Build<'_> {
         };
         match draw {
             0 => self.schema_for(target, depth - 1),
-            1 => {
-                let (note, name) = (self.some_note(), self.name_text());
-                let eager = self.eager(60);
-                let schema = self.tables.reference(note, name, eager);
-                self.keep_schema(schema)
-            }
+            1 => self.ghost_reference(60),
             2..=8 => {
                 let object = self.object_schema(target, depth - 1);
                 let name = self.register(object);

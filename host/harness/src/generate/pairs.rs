@@ -118,8 +118,7 @@ impl Build<'_> {
                 self.tables.array(&items)
             }
             node::OBJECT if count > 0 => {
-                let links = self.nodes_at(first, 2 * count);
-                let mut entries: Vec<_> = links.chunks_exact(2).map(|at| (at[0], at[1])).collect();
+                let mut entries = self.entries_at(first, count);
                 let place = self.rng.below(entries.len());
                 let entry = &mut entries[place];
                 match self.rng.percent(20) {
@@ -143,13 +142,17 @@ impl Build<'_> {
         let [kind, first, count, _] = self.tables.raw().node(of.get());
         let made = match kind {
             node::ARRAY => {
-                let items = self.copies(first, count);
-                self.tables.array(&items)
+                let items = self.nodes_at(first, count);
+                let copies: Vec<Node> = items.into_iter().map(|item| self.copy(item)).collect();
+                self.tables.array(&copies)
             }
             node::OBJECT => {
-                let links = self.copies(first, 2 * count);
-                let entries: Vec<_> = links.chunks_exact(2).map(|at| (at[0], at[1])).collect();
-                self.tables.object(&entries)
+                let entries = self.entries_at(first, count);
+                let copies: Vec<(Node, Node)> = entries
+                    .into_iter()
+                    .map(|(key, value)| (self.copy(key), self.copy(value)))
+                    .collect();
+                self.tables.object(&copies)
             }
             node::STRING => {
                 let text = self.text_of(first);
@@ -171,11 +174,6 @@ impl Build<'_> {
             _ => self.tables.null(),
         };
         self.keep_node(made)
-    }
-
-    fn copies(&mut self, first: u32, count: u32) -> Vec<Node> {
-        let nodes = self.nodes_at(first, count);
-        nodes.into_iter().map(|node| self.copy(node)).collect()
     }
 
     /// A value so many arrays deep.

@@ -3,11 +3,8 @@
 use crate::case::{Case, Request};
 use crate::rng::Rng;
 use quarto_yaml_model::Model;
-use quarto_yaml_tables::layout::{LINKS, NONE, NOTES, SCHEMAS, Table};
+use quarto_yaml_tables::layout::{GROWING, NONE, NOTES, SCHEMAS, Table};
 use quarto_yaml_tables::{Checker, RawTables};
-
-/// The tables that compiling appends to.
-pub const GROWING: [Table; 3] = [NOTES, SCHEMAS, LINKS];
 
 /// Room that suffices for nearly all generated cases.
 const AMPLE: [usize; 3] = [60, 400, 1_500];
@@ -25,7 +22,7 @@ pub fn compile(
     if rng.below(400) == 0 {
         near_limits(&mut tables, rng);
     }
-    let used = GROWING.map(|table| tables.count(table) as u32);
+    let used = tables.used();
     let mut spare = AMPLE;
     if rng.percent(15) {
         spare = needed(&tables, used, schema);
@@ -44,10 +41,7 @@ pub fn compile(
         } else {
             0
         };
-        let words = tables.words_mut(table);
-        let end = words.len() + spare * table.words + ragged;
-        let stain = rng.garbage();
-        words.resize(end, stain);
+        lend(&mut tables, table, [spare, ragged], rng.garbage());
     }
     Case {
         tables,
@@ -55,27 +49,22 @@ pub fn compile(
     }
 }
 
-/// The tables cut at the used counts.
-pub fn in_use(tables: &RawTables, used: [u32; 3]) -> RawTables {
-    let mut tables = tables.clone();
-    for (table, used) in GROWING.into_iter().zip(used) {
-        let end = (used as usize).saturating_mul(table.words);
-        tables.words_mut(table).truncate(end);
-    }
-    tables
+/// Lends room for so many records behind a table's words, and some words more, all of them this one.
+pub fn lend(tables: &mut RawTables, table: Table, [records, more]: [usize; 2], word: u32) {
+    let words = tables.words_mut(table);
+    words.resize(words.len() + records * table.words + more, word);
 }
 
 /// A compile over tables without room: with this room, or where none is given with what the second
 /// judge takes and a little more, ample where it refuses. The room holds garbage.
 pub fn lent(mut tables: RawTables, schema: u32, spare: Option<[usize; 3]>) -> Case {
-    let used = GROWING.map(|table| tables.count(table) as u32);
+    let used = tables.used();
     let spare = spare.unwrap_or_else(|| match needed(&tables, used, schema) {
         [0, 0, 0] => AMPLE,
         [notes, schemas, links] => [notes + 1, schemas, links + 3],
     });
     for (table, spare) in GROWING.into_iter().zip(spare) {
-        let words = tables.words_mut(table);
-        words.resize(words.len() + spare * table.words, STAIN);
+        lend(&mut tables, table, [spare, 0], STAIN);
     }
     Case {
         tables,
@@ -87,26 +76,34 @@ pub fn lent(mut tables: RawTables, schema: u32, spare: Option<[usize; 3]>) -> Ca
 pub fn needed(tables: &RawTables, used: [u32; 3], schema: u32) -> [usize; 3] {
     let mut tables = tables.clone();
     for (table, spare) in GROWING.into_iter().zip(AMPLE) {
-        let words = tables.words_mut(table);
-        words.resize(words.len() + spare * table.words, 0);
+        lend(&mut tables, table, [spare, 0], 0);
     }
     let answer = Model.compile(&mut tables, used, schema);
-    let after = [answer.used_notes, answer.used_schemas, answer.used_links];
+    let after = answer.used();
     [0, 1, 2].map(|place| (after[place] - used[place]) as usize)
 }
 
 /// Fills one of the three tables up to a few records under its limit.
 fn near_limits(tables: &mut RawTables, rng: &mut Rng) {
-    let (table, filler): (Table, &[u32]) = match rng.below(3) {
-        0 => (NOTES, &[NONE, NONE, NONE, NONE, NONE, NONE, NONE, NONE, 0]),
-        1 => (
-            SCHEMAS,
-            &[0, NONE, 0, 0, 0, 0, 0, 0, 0, 0, 0, 0, 0, 0, 0, 0],
-        ),
-        _ => (LINKS, &[0]),
-    };
+    let table = rng.pick(&GROWING);
     let left = rng.below(12);
-    while tables.count(table) + left < table.most {
-        tables.words_mut(table).extend_from_slice(filler);
+    fill(tables, table, table.most - left, &empty(table));
+}
+
+/// A good record that says nothing: a note without words, True, a link.
+pub fn empty(table: Table) -> Vec<u32> {
+    let mut words = vec![0; table.words];
+    match table {
+        NOTES => words[..8].fill(NONE),
+        SCHEMAS => words[1] = NONE,
+        _ => {}
+    }
+    words
+}
+
+/// Fills a table with a record up to this count.
+pub fn fill(tables: &mut RawTables, table: Table, count: usize, record: &[u32]) {
+    while tables.count(table) < count {
+        tables.words_mut(table).extend_from_slice(record);
     }
 }

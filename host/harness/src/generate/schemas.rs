@@ -12,7 +12,7 @@ impl Build<'_> {
             return match self.rng.below(8) {
                 0 => self.leaf_schema(),
                 1 => self.any_kind_of_true(),
-                2 => self.ghost_reference(),
+                2 => self.ghost_reference(30),
                 _ => self.fitting_schema(target, 0),
             };
         }
@@ -43,9 +43,10 @@ impl Build<'_> {
         self.keep_schema(schema)
     }
 
-    fn ghost_reference(&mut self) -> Schema {
+    /// A reference whose target may be unknown, so many of 100 times eager.
+    pub fn ghost_reference(&mut self, eager: usize) -> Schema {
         let (note, name) = (self.some_note(), self.name_text());
-        let eager = self.eager(30);
+        let eager = self.eager(eager);
         let schema = self.tables.reference(note, name, eager);
         self.keep_schema(schema)
     }
@@ -53,20 +54,24 @@ impl Build<'_> {
     /// A schema of any simple kind.
     fn leaf_schema(&mut self) -> Schema {
         match self.rng.below(5) {
-            0 => {
-                let note = self.some_note();
-                let schema = self.tables.boolean_schema(note);
-                self.keep_schema(schema)
-            }
-            1 => {
-                let note = self.some_note();
-                let schema = self.tables.null_schema(note);
-                self.keep_schema(schema)
-            }
+            0 => self.boolean_schema(),
+            1 => self.null_schema(),
             2 => self.number_schema(None),
             3 => self.string_schema(None),
             _ => self.enum_schema(None),
         }
+    }
+
+    fn boolean_schema(&mut self) -> Schema {
+        let note = self.some_note();
+        let schema = self.tables.boolean_schema(note);
+        self.keep_schema(schema)
+    }
+
+    fn null_schema(&mut self) -> Schema {
+        let note = self.some_note();
+        let schema = self.tables.null_schema(note);
+        self.keep_schema(schema)
     }
 
     fn fitting_schema(&mut self, target: Option<Node>, depth: usize) -> Schema {
@@ -75,16 +80,8 @@ impl Build<'_> {
         };
         let [kind, first, count, _] = self.tables.raw().node(target.get());
         match kind {
-            node::NULL | node::ALIAS | node::BAD_VALUE => {
-                let note = self.some_note();
-                let schema = self.tables.null_schema(note);
-                self.keep_schema(schema)
-            }
-            node::BOOLEAN => {
-                let note = self.some_note();
-                let schema = self.tables.boolean_schema(note);
-                self.keep_schema(schema)
-            }
+            node::NULL | node::ALIAS | node::BAD_VALUE => self.null_schema(),
+            node::BOOLEAN => self.boolean_schema(),
             node::INTEGER | node::REAL => {
                 let value = self.value_of(kind, first);
                 self.number_schema(value)

@@ -234,11 +234,7 @@ impl Build<'_> {
 
     /// The same entries in another order, or with an earlier duplicate, or without one.
     fn object_variant(&mut self, first: u32, count: u32) -> Node {
-        let links = self.nodes_at(first, 2 * count);
-        let mut entries: Vec<(Node, Node)> = links
-            .chunks_exact(2)
-            .map(|pair| (pair[0], pair[1]))
-            .collect();
+        let mut entries = self.entries_at(first, count);
         for entry in &mut entries {
             *entry = (self.nearly(entry.0), self.nearly(entry.1));
         }
@@ -275,5 +271,13 @@ impl Build<'_> {
     pub fn nodes_at(&self, first: u32, count: u32) -> Vec<Node> {
         let links = self.tables.raw().list(first, count);
         links.iter().map(|&link| self.node_of(link)).collect()
+    }
+
+    /// The entries that links from a place name.
+    pub fn entries_at(&self, first: u32, count: u32) -> Vec<(Node, Node)> {
+        let pairs = self.tables.raw().pairs(first, count);
+        pairs
+            .map(|(key, value)| (self.node_of(key), self.node_of(value)))
+            .collect()
     }
 }

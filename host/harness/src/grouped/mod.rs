@@ -58,7 +58,7 @@ impl Grouping {
         let Request::Compile { used, schema } = self.case.request else {
             return None;
         };
-        let tables = room::in_use(&self.case.tables, used);
+        let tables = self.case.tables.cut(used);
         check(&tables).ok()?;
         Some(room::lent(tables, schema, self.spare))
     }
@@ -68,7 +68,7 @@ impl Grouping {
         let Request::Compile { used, mut schema } = self.case.request else {
             return None;
         };
-        let mut tables = room::in_use(&self.case.tables, used);
+        let mut tables = self.case.tables.cut(used);
         for &run in &self.runs {
             tables = regroup(&tables, run)?;
             schema += u32::from(schema >= run.object);

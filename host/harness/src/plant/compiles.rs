@@ -6,7 +6,7 @@ use crate::generate::Stream::{Both, Compile, Edges};
 use crate::run::Outcome;
 use quarto_yaml_model::Model;
 use quarto_yaml_tables::Checker;
-use quarto_yaml_tables::layout::{LINKS, NONE, NOTES, SCHEMAS, Table, note, schema};
+use quarto_yaml_tables::layout::{GROWING, LINKS, NONE, NOTES, SCHEMAS, Table, note, schema};
 
 pub const PLANTS: &[Plant] = &[
     seen("the record before the compiled one", Compile, |_, right| {
@@ -157,7 +157,7 @@ pub const PLANTS: &[Plant] = &[
     unseen("room past the limit not zeroed", Edges, |_, right| {
         written(right, |wrong| {
             let tables = wrong.tables.as_mut()?;
-            let over = [NOTES, SCHEMAS, LINKS]
+            let over = GROWING
                 .into_iter()
                 .find(|table| tables.count(*table) > table.most)?;
             tables.words_mut(over)[over.most * over.words] = 7;
@@ -171,7 +171,7 @@ pub const PLANTS: &[Plant] = &[
                 return None;
             };
             let tables = wrong.tables.as_mut()?;
-            for (table, used) in [NOTES, SCHEMAS, LINKS].into_iter().zip(used) {
+            for (table, used) in GROWING.into_iter().zip(used) {
                 let start = used as usize * table.words;
                 let words = tables.words_mut(table);
                 words.get_mut(start..).unwrap_or_default().fill(0);
@@ -183,7 +183,7 @@ pub const PLANTS: &[Plant] = &[
         changed(right, |wrong| {
             (wrong.answer.number == 20).then_some(())?;
             let answer = &mut wrong.answer;
-            let lent = [NOTES, SCHEMAS, LINKS].map(|table| case.tables.count(table) as u32);
+            let lent = case.tables.used();
             answer.used_notes = answer.used_notes.min(lent[0]);
             answer.used_schemas = answer.used_schemas.min(lent[1]);
             answer.used_links = answer.used_links.min(lent[2]);
@@ -197,7 +197,7 @@ pub const PLANTS: &[Plant] = &[
                 return None;
             };
             let mut beyond = case.tables.clone();
-            for (table, used) in [NOTES, SCHEMAS, LINKS].into_iter().zip(used) {
+            for (table, used) in GROWING.into_iter().zip(used) {
                 let room = used as usize + 20;
                 (room <= table.most).then_some(())?;
                 beyond.words_mut(table).resize(room * table.words, 0);

@@ -4,6 +4,7 @@
 //! catch every one of them; those that the original can see are caught by it
 //! alone too.
 
+mod altered;
 mod compiles;
 mod navigations;
 mod slips;
@@ -12,6 +13,7 @@ mod validations;
 use crate::case::Case;
 use crate::generate::Stream;
 use crate::run::Outcome;
+pub use altered::{Altered, UNALTERED, altered};
 pub use slips::{SLIPS, Slip};
 
 /// One way of being wrong.

@@ -1,8 +1,8 @@
 //! Whole checkers that go wrong in one rule, to stand in for the library.
 
-use quarto_yaml_model::{Merge, Model, Room, compile_with, merge};
+use super::altered::{Altered, UNALTERED};
+use quarto_yaml_model::{Merge, Room, merge};
 use quarto_yaml_tables::layout::{NONE, SCHEMAS, schema};
-use quarto_yaml_tables::{Answer, Checker, Mode, RawTables};
 
 /// One rule gone wrong.
 #[derive(Clone, Copy)]
@@ -11,9 +11,8 @@ pub struct Slip {
     pub name: &'static str,
     /// Whether grouping a run shows it; the others can be grouped too, and only the second judge sees them.
     pub seen_by_grouping: bool,
-    merge: Merge,
-    /// The tables that a validation is asked with.
-    visited: fn(&RawTables) -> RawTables,
+    /// A checker that goes wrong so.
+    pub checker: Altered,
 }
 
 /// Slips in merging, and one in a visit.
@@ -90,14 +89,17 @@ pub const SLIPS: [Slip; 9] = [
         Ok(set(room, record, schema::CLOSED, one.into()))
     }),
     Slip {
-        visited: |tables| {
-            let mut tables = tables.clone();
-            for words in tables.schemas.chunks_exact_mut(SCHEMAS.words) {
-                if words[0] == schema::ALL_OF {
-                    words[3] = words[3].min(2);
+        checker: Altered {
+            visited: |tables| {
+                let mut tables = tables.clone();
+                for words in tables.schemas.chunks_exact_mut(SCHEMAS.words) {
+                    if words[0] == schema::ALL_OF {
+                        words[3] = words[3].min(2);
+                    }
                 }
-            }
-            tables
+                tables
+            },
+            ..UNALTERED
         },
         ..seen("a visit of the first two parts only", merge)
     },
@@ -107,8 +109,7 @@ const fn seen(name: &'static str, merge: Merge) -> Slip {
     Slip {
         name,
         seen_by_grouping: true,
-        merge,
-        visited: RawTables::clone,
+        checker: Altered { merge, ..UNALTERED },
     }
 }
 
@@ -131,27 +132,4 @@ fn joined(room: &Room<'_>, record: u32, place: usize, kind: u32) -> Option<u32> 
     let words = room.tables.schema(join);
     let new = join != NONE && join < record && join + 2 >= record;
     (new && words[0] == kind && words[1] == NONE && words[3] > 1).then_some(join)
-}
-
-impl Checker for Slip {
-    fn navigate(&self, tables: &RawTables, node: u32, path: &[u32], key_wanted: bool) -> Answer {
-        Model.navigate(tables, node, path, key_wanted)
-    }
-
-    fn validate(
-        &self,
-        tables: &RawTables,
-        mode: Mode,
-        node: u32,
-        schema: u32,
-        instance: &mut [u32],
-        steps: &mut [u32],
-    ) -> Answer {
-        let tables = (self.visited)(tables);
-        Model.validate(&tables, mode, node, schema, instance, steps)
-    }
-
-    fn compile(&self, tables: &mut RawTables, used: [u32; 3], schema: u32) -> Answer {
-        compile_with(self.merge, tables, used, schema)
-    }
 }

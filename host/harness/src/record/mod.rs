@@ -7,7 +7,8 @@ mod read;
 mod select;
 mod write;
 
+pub use crate::remote::bytes;
 pub use pairs::{Pairs, holds_pairs, pair_words, pairs, replay_pairs};
 pub use read::{Replayed, replay, stored_call};
 pub use select::{Kind, Sample, sample};
-pub use write::{HEADER_WORDS, MAGIC, VERSION, bytes, words};
+pub use write::{HEADER_WORDS, MAGIC, VERSION, words};

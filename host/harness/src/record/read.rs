@@ -3,7 +3,7 @@
 use super::write::{HEADER_WORDS, MAGIC, VERSION};
 use crate::case::{Case, Request, WORD_TABLES};
 use crate::run::{Outcome, run};
-use quarto_yaml_tables::layout::{LINKS, NOTES, SCHEMAS};
+use quarto_yaml_tables::layout::GROWING;
 use quarto_yaml_tables::{Answer, Call, Checker, Mode, RawTables};
 
 /// What a replay came to.
@@ -176,7 +176,7 @@ impl<'a> Reader<'a> {
             return Some(left == tables);
         }
         let mut right = true;
-        for (place, table) in [NOTES, SCHEMAS, LINKS].into_iter().enumerate() {
+        for (place, table) in GROWING.into_iter().enumerate() {
             let [start, end] = [used[place], after[place]].map(|used| used as usize * table.words);
             let appended = self.take(end - start)?;
             let (kept, rest) = left.words(table).split_at_checked(start)?;

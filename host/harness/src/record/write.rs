@@ -4,7 +4,7 @@ use super::select::{Group, Kind, Sample, Stored};
 use crate::case::{Request, WORD_TABLES};
 use crate::run::Outcome;
 use quarto_yaml_tables::RawTables;
-use quarto_yaml_tables::layout::{LINKS, NOTES, SCHEMAS};
+use quarto_yaml_tables::layout::GROWING;
 
 /// The first word of a file.
 pub const MAGIC: u32 = 0x5059_5251;
@@ -35,11 +35,6 @@ pub(super) fn header(call: u32, groups: usize, calls: usize, seed: u64) -> Vec<u
     let [groups, calls] = [groups, calls].map(|count| count as u32);
     let [low, high] = [seed as u32, (seed >> 32) as u32];
     vec![MAGIC, VERSION, call, groups, calls, low, high, 0]
-}
-
-/// Words as bytes, low end first.
-pub fn bytes(words: &[u32]) -> Vec<u8> {
-    words.iter().flat_map(|word| word.to_le_bytes()).collect()
 }
 
 impl Group {
@@ -139,8 +134,8 @@ fn write_appended(out: &mut Vec<u32>, outcome: &Outcome, used: [u32; 3]) {
     let Some(tables) = outcome.tables.as_ref().filter(|_| answer.number == 0) else {
         return;
     };
-    let after = [answer.used_notes, answer.used_schemas, answer.used_links];
-    for (place, table) in [NOTES, SCHEMAS, LINKS].into_iter().enumerate() {
+    let after = answer.used();
+    for (place, table) in GROWING.into_iter().enumerate() {
         let [start, end] = [used[place], after[place]].map(|used| used as usize * table.words);
         out.extend(&tables.words(table)[start..end]);
     }

@@ -26,13 +26,14 @@ use Rattle.build.proofs.+array+derived+each+group+node+one+perhaps+plai
 use Rattle.build.proofs.plain.Reads as plain
 use Rattle.build.proofs.plain.Kinds as plain-kinds
 use Rattle.build.proofs.+array+derived+each+group+node+one+perhaps+plain.Lts-plain as plain-lts
-use Rattle.build.proofs.numbers.chase.Reads as chase-reads
+use Rattle.put.proofs.chase.Reads as chase-reads
 use Rattle.derive.proofs.finish.Reads as finish-reads
 use Rattle.derive.proofs.merge_object_schemas.Reads as merge-object-schemas-reads
-use Rattle.derive.proofs.objects.Reads as objects-reads
-use Rattle.build.proofs.numbers.push.Reads as push-reads
-use Rattle.build.proofs.put.put_list.Reads as put-list-reads
-use Rattle.build.proofs.put.put_object.Reads as put-object-reads
+use Rattle.inherit.proofs.objects.Reads as objects-reads
+use Rattle.build.proofs.push.Reads as push-reads
+use Rattle.put.proofs.is_plain.Reads as is-plain-reads
+use Rattle.put.proofs.put_list.Reads as put-list-reads
+use Rattle.put.proofs.put_object.Reads as put-object-reads
 use Rattle.merge.proofs.field.Reads as field-reads
 use Rattle.merge.proofs.word.Reads as word-reads
 
@@ -121,7 +122,7 @@ abbrev pub group-calls : ℕ → group-lts.Claims
 group-calls t = (field-reads.Asked, field-reads.Learnt, each-below t, each.Post, put-list-reads.Asked, put-list-reads.Learnt, finish-reads.Asked, finish-reads.Learnt)
 
 abbrev pub node-calls : ℕ → node-lts.Claims
-node-calls t = (field-reads.Asked, field-reads.Learnt, array-below t, array.Post, plain-below t, plain.Post, derived-below t, derived.Post, group-below t, group.Post)
+node-calls t = (field-reads.Asked, field-reads.Learnt, array-below t, array.Post, is-plain-reads.Asked, is-plain-reads.Learnt, plain-below t, plain.Post, derived-below t, derived.Post, group-below t, group.Post)
 
 abbrev pub one-calls : ℕ → one-lts.Claims
 one-calls t = (chase-reads.Asked, chase-reads.Learnt, node-below t, node.Post)

@@ -3,7 +3,7 @@ use Prim.Native.Nat.{ℕ, _-_}
 use native.Mathlib.Omega.{arith}
 use borrow.Author.Needs.{needs}
 use Rattle.build.proofs.Build as build
-use Rattle.build.specs.Chase.{chaseAt}
+use Rattle.put.specs.Chase.{chaseAt}
 use Rattle.build.proofs.group.Reads as group
 use Rattle.build.proofs.+array+derived+each+group+node+one+perhaps+plain.Lts-group as group-lts
 use Rattle.build.proofs.+array+derived+each+group+node+one+perhaps+plain.Proof.Frame.{group-at, group-calls}

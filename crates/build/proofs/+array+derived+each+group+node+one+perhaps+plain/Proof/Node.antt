@@ -29,8 +29,8 @@ node-same-length-4 t c = search needs
 pub node-returns : (t : ℕ) → node-lts.Need-returns (node-calls t) (node-at t) node.Post
 node-returns t c = build.built-is _ _ _ _ _ _ _ _ _ _ _ _ (build.node-array _ _ _ _ _ (c .before .before .before .before .before .before .before .before .before .before .before .before .before .before .field .ensures) (c .before .before .before .before .before .before .before .before .before .before .before .before .before .if1 .taken)) (c .before .before .before .before .before .before .before .before .array .ensures)
 
-pub node-field-requires-2 : (t : ℕ) → node-lts.Need-field-requires-2 (node-calls t) (node-at t) node.Post
-node-field-requires-2 t c κs = search needs
+pub node-is-plain-requires : (t : ℕ) → node-lts.Need-is-plain-requires (node-calls t) (node-at t) node.Post
+node-is-plain-requires t c κs = search needs
 
 pub node-plain-requires : (t : ℕ) → node-lts.Need-plain-requires (node-calls t) (node-at t) node.Post
 node-plain-requires t c κs = (omega (arith, c .before .before .before .before .before .before .before .before .before .before .before .before .before .before .before .before .before .before .pre .0), c .before .before .before .before .before .before .before .before .before .before .before .before .before .before .before .before .before .before .pre .1)
@@ -48,7 +48,7 @@ pub node-same-length-8 : (t : ℕ) → node-lts.Need-same-length-8 (node-calls t
 node-same-length-8 t c = search needs
 
 pub node-returns-2 : (t : ℕ) → node-lts.Need-returns-2 (node-calls t) (node-at t) node.Post
-node-returns-2 t c = build.built-is _ _ _ _ _ _ _ _ _ _ _ _ (plains.node-plain _ _ _ _ _ _ (c .before .before .before .before .before .before .before .before .before .before .before .before .before .before .before .before .before .before .field .ensures) (c .before .before .before .before .before .before .before .before .before .before .before .before .before .before .before .before .before .if1 .left) (c .before .before .before .before .before .before .before .before .before .before .before .before .before .before .before .before .if2 .taken) (c .before .before .before .before .before .before .before .before .before .before .before .before .before .before .field2 .ensures) (c .before .before .before .before .before .before .before .before .before .before .before .before .before .if3 .taken)) (c .before .before .before .before .before .before .before .before .plain .ensures)
+node-returns-2 t c = build.built-is _ _ _ _ _ _ _ _ _ _ _ _ (plains.node-plain _ _ _ _ _ _ (c .before .before .before .before .before .before .before .before .before .before .before .before .before .before .before .before .before .before .field .ensures) (c .before .before .before .before .before .before .before .before .before .before .before .before .before .before .before .before .before .if1 .left) (c .before .before .before .before .before .before .before .before .before .before .before .before .before .before .before .before .if2 .taken) (c .before .before .before .before .before .before .before .before .before .before .before .before .before .before .is-plain .ensures) (c .before .before .before .before .before .before .before .before .before .before .before .before .before .if3 .taken)) (c .before .before .before .before .before .before .before .before .plain .ensures)
 
 pub node-derived-requires : (t : ℕ) → node-lts.Need-derived-requires (node-calls t) (node-at t) node.Post
 node-derived-requires t c κs = (omega (arith, c .before .before .before .before .before .before .before .before .before .before .before .before .before .before .before .before .before .before .pre .0), c .before .before .before .before .before .before .before .before .before .before .before .before .before .before .before .before .before .before .pre .1)
@@ -66,7 +66,7 @@ pub node-same-length-12 : (t : ℕ) → node-lts.Need-same-length-12 (node-calls
 node-same-length-12 t c = search needs
 
 pub node-returns-3 : (t : ℕ) → node-lts.Need-returns-3 (node-calls t) (node-at t) node.Post
-node-returns-3 t c = build.built-is _ _ _ _ _ _ _ _ _ _ _ _ (plains.node-derived _ _ _ _ _ _ (c .before .before .before .before .before .before .before .before .before .before .before .before .before .before .before .before .before .before .field .ensures) (c .before .before .before .before .before .before .before .before .before .before .before .before .before .before .before .before .before .if1 .left) (c .before .before .before .before .before .before .before .before .before .before .before .before .before .before .before .before .if2 .taken) (c .before .before .before .before .before .before .before .before .before .before .before .before .before .before .field2 .ensures) (c .before .before .before .before .before .before .before .before .before .before .before .before .before .if3 .left)) (c .before .before .before .before .before .before .before .before .derived .ensures)
+node-returns-3 t c = build.built-is _ _ _ _ _ _ _ _ _ _ _ _ (plains.node-derived _ _ _ _ _ _ (c .before .before .before .before .before .before .before .before .before .before .before .before .before .before .before .before .before .before .field .ensures) (c .before .before .before .before .before .before .before .before .before .before .before .before .before .before .before .before .before .if1 .left) (c .before .before .before .before .before .before .before .before .before .before .before .before .before .before .before .before .if2 .taken) (c .before .before .before .before .before .before .before .before .before .before .before .before .before .before .is-plain .ensures) (c .before .before .before .before .before .before .before .before .before .before .before .before .before .if3 .left)) (c .before .before .before .before .before .before .before .before .derived .ensures)
 
 pub node-group-requires : (t : ℕ) → node-lts.Need-group-requires (node-calls t) (node-at t) node.Post
 node-group-requires t c κs = (omega (arith, c .before .before .before .before .before .before .before .before .before .before .before .before .before .before .before .pre .0), c .before .before .before .before .before .before .before .before .before .before .before .before .before .before .before .pre .1)

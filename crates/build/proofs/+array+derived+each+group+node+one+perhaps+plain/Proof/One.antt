@@ -6,7 +6,7 @@ use borrow.Author.Needs.{needs}
 use denote.Ref.{now}
 use Rattle.build.proofs.Build as build
 use Rattle.compilation.specs.State.{sourceOf}
-use Rattle.build.specs.Chase.{chaseAt}
+use Rattle.put.specs.Chase.{chaseAt}
 use Rattle.build.proofs.one.Reads as one
 use Rattle.build.proofs.+array+derived+each+group+node+one+perhaps+plain.Lts-one as one-lts
 use Rattle.build.proofs.+array+derived+each+group+node+one+perhaps+plain.Proof.Frame.{one-at, one-calls}

@@ -1,3 +1,4 @@
+use mathlib.Core.Path.{_∙_}
 use Rattle.rules.specs.Schemas.{numberOk}
 use borrow.Author.Needs.{needs}
 use Rattle.rules.proofs.schemas.number_ok.Statement.{statement}
@@ -53,7 +54,7 @@ both-requires-5 c κs = search needs
 
 returns : tie.Need-returns
 unfolding numberOk
-returns c = cc
+returns c = c .both5 .ensures ∙ rw (c .before .both4 .ensures, c .before .before .both3 .ensures, c .before .before .before .both2 .ensures, c .before .before .before .before .both .ensures, c .before .before .before .before .before .unused-from .ensures, c .before .before .before .before .before .before .optional-below5 .ensures, c .before .before .before .before .before .before .before .number-multiple .ensures, c .before .before .before .before .before .before .before .before .optional-below4 .ensures, c .before .before .before .before .before .before .before .before .before .number-exclusive-maximum .ensures, c .before .before .before .before .before .before .before .before .before .before .optional-below3 .ensures, c .before .before .before .before .before .before .before .before .before .before .before .number-exclusive-minimum .ensures, c .before .before .before .before .before .before .before .before .before .before .before .before .optional-below2 .ensures, c .before .before .before .before .before .before .before .before .before .before .before .before .before .number-maximum .ensures, c .before .before .before .before .before .before .before .before .before .before .before .before .before .before .optional-below .ensures, c .before .before .before .before .before .before .before .before .before .before .before .before .before .before .before .number-minimum .ensures)
 
 pub number-ok-spec : {M : Type 1} → statement M
 number-ok-spec =

@@ -1,5 +1,5 @@
-use Rattle.rules.specs.Schemas.{schemaOk}
 use borrow.Author.Needs.{needs}
+use Rattle.rules.proofs.Parts.{note-good, note-bad}
 use Rattle.rules.proofs.schemas.schema_ok.Statement.{statement}
 use Rattle.rules.proofs.schemas.schema_ok.Tie as tie
 
@@ -12,12 +12,11 @@ schema-kind-requires c κs = search needs
 schema-rule-requires : tie.Need-schema-rule-requires
 schema-rule-requires c κs = search needs
 
-both-requires : tie.Need-both-requires
-both-requires c κs = search needs
-
 returns : tie.Need-returns
-unfolding schemaOk
-returns c = cc
+returns c = note-good _ _ _ _ _ _ (cc) (cc)
+
+returns-2 : tie.Need-returns-2
+returns-2 c = note-bad _ _ _ _ _ _ (cc)
 
 pub schema-ok-spec : {M : Type 1} → statement M
 schema-ok-spec =
@@ -26,5 +25,5 @@ schema-ok-spec =
     schema-note-ok-requires
     schema-kind-requires
     schema-rule-requires
-    both-requires
-    returns)
+    returns
+    returns-2)

@@ -6,7 +6,7 @@ use Rattle.layout.specs.Layout.{schemaWords}
 use Rattle.layout.specs.Walk.{every}
 use Rattle.layout.proofs.Walk.{every-more, every-stop}
 use Rattle.rules.specs.Schemas.{unusedAt, unusedFrom}
-use Rattle.rules.proofs.Walked.{every-none}
+use Rattle.lists.proofs.Walked.{every-none}
 use Rattle.rules.proofs.Rules.{unused-yes, unused-no, unused-is}
 use Rattle.rules.proofs.schemas.unused_from.Statement.{statement}
 use Rattle.rules.proofs.schemas.unused_from.Tie as tie

@@ -1,5 +1,6 @@
 use borrow.Author.Needs.{needs}
 use Rattle.validator.proofs.Early.{says-nothing, accepts-boolean, accepts-number, accepts-string, accepts-enum}
+use Rattle.validator.proofs.AtOnce.{glance-object}
 use Rattle.validator.proofs.quick.accepts.Statement.{statement}
 use Rattle.validator.proofs.quick.accepts.Tie as tie
 
@@ -45,8 +46,17 @@ returns-4 c = accepts-string _ _ _ _ _ _ (c .before .before .before .before .if1
 returns-5 : tie.Need-returns-5
 returns-5 c = accepts-enum _ _ _ _ _ _ (c .before .before .before .before .if1 .left) (c .before .before .before .schema-kind .ensures) _ _ (c .is-fine4 .ensures) (c .before .validate-enum .ensures) (c .before .before .match .keys4)
 
+sub-accepts-object : tie.Need-sub-accepts-object
+sub-accepts-object c = search needs
+
+accepts-object-requires : tie.Need-accepts-object-requires
+accepts-object-requires c κs = search needs
+
 returns-6 : tie.Need-returns-6
-returns-6 c = says-nothing _
+returns-6 c = glance-object _ _ _ _ _ _ (c .before .before .before .if1 .left) (c .before .before .schema-kind .ensures) _ (c .accepts-object .ensures) (c .before .match .keys5)
+
+returns-7 : tie.Need-returns-7
+returns-7 c = says-nothing _
 
 pub accepts-spec : {M : Type 1} → statement M
 accepts-spec =
@@ -62,8 +72,11 @@ accepts-spec =
     is-fine-requires-3
     validate-enum-requires
     is-fine-requires-4
+    sub-accepts-object
+    accepts-object-requires
     returns-2
     returns-3
     returns-4
     returns-5
-    returns-6)
+    returns-6
+    returns-7)

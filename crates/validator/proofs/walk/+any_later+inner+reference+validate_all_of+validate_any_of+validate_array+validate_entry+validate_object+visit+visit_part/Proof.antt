@@ -39,7 +39,7 @@ use Rattle.validator.proofs.walk.+any_later+inner+reference+validate_al
 use Rattle.validator.proofs.walk.+any_later+inner+reference+validate_all_of+validate_any_of+validate_array+validate_entry+validate_object+visit+visit_part.Proof.Reference.{reference-ref-text-requires, reference-resolve-requires, reference-enum-known-target, reference-visit-requires, reference-enum-told, reference-refuse-requires, reference-same-length, reference-same-length-2, reference-returns, reference-returns-2}
 use Rattle.validator.proofs.walk.+any_later+inner+reference+validate_all_of+validate_any_of+validate_array+validate_entry+validate_object+visit+visit_part.Proof.ValidateAllOf.{validate-all-of-Inv-loop, validate-all-of-μ-loop, validate-all-of-list-first-requires, validate-all-of-list-count-requires, validate-all-of-loop-holds, validate-all-of-link-requires, validate-all-of-visit-requires, validate-all-of-enum-told, validate-all-of-same-length, validate-all-of-same-length-2, validate-all-of-returns, validate-all-of-add-i, validate-all-of-loop-less, validate-all-of-loop-again, validate-all-of-same-length-3, validate-all-of-same-length-4, validate-all-of-returns-2}
 use Rattle.validator.proofs.walk.+any_later+inner+reference+validate_all_of+validate_any_of+validate_array+validate_entry+validate_object+visit+visit_part.Proof.ValidateAnyOf.{validate-any-of-Inv-loop, validate-any-of-μ-loop, validate-any-of-list-first-requires, validate-any-of-list-count-requires, validate-any-of-loop-holds, validate-any-of-link-requires, validate-any-of-add-i, validate-any-of-visit-requires, validate-any-of-enum-told, validate-any-of-same-length, validate-any-of-same-length-2, validate-any-of-returns, validate-any-of-enum-told-2, validate-any-of-same-length-3, validate-any-of-same-length-4, validate-any-of-returns-2, validate-any-of-enum-told-3, validate-any-of-any-later-requires, validate-any-of-same-length-5, validate-any-of-same-length-6, validate-any-of-returns-3, validate-any-of-enum-told-4, validate-any-of-loop-less, validate-any-of-loop-again, validate-any-of-same-length-7, validate-any-of-same-length-8, validate-any-of-returns-4}
-use Rattle.validator.proofs.walk.+any_later+inner+reference+validate_all_of+validate_any_of+validate_array+validate_entry+validate_object+visit+visit_part.Proof.ValidateArray.{validate-array-Inv-loop, validate-array-μ-loop, validate-array-check-array-requires, validate-array-enum-told, validate-array-judged-requires, validate-array-returns, validate-array-array-items-requires, validate-array-returns-2, validate-array-node-a-requires, validate-array-node-b-requires, validate-array-loop-holds, validate-array-link-requires, validate-array-visit-part-requires, validate-array-enum-told-2, validate-array-same-length, validate-array-same-length-2, validate-array-returns-3, validate-array-add-i, validate-array-loop-less, validate-array-loop-again, validate-array-same-length-3, validate-array-same-length-4, validate-array-returns-4}
+use Rattle.validator.proofs.walk.+any_later+inner+reference+validate_all_of+validate_any_of+validate_array+validate_entry+validate_object+visit+visit_part.Proof.ValidateArray.{validate-array-Inv-loop, validate-array-μ-loop, validate-array-check-array-requires, validate-array-enum-told, validate-array-judged-requires, validate-array-returns, validate-array-array-items-requires, validate-array-returns-2, validate-array-node-a-requires, validate-array-node-b-requires, validate-array-loop-holds, validate-array-link-requires, validate-array-accepts-requires, validate-array-add-i-2, validate-array-loop-less-2, validate-array-loop-again-2, validate-array-visit-part-requires, validate-array-enum-told-2, validate-array-same-length, validate-array-same-length-2, validate-array-returns-3, validate-array-add-i, validate-array-loop-less, validate-array-loop-again, validate-array-same-length-3, validate-array-same-length-4, validate-array-returns-4}
 use Rattle.validator.proofs.walk.+any_later+inner+reference+validate_all_of+validate_any_of+validate_array+validate_entry+validate_object+visit+visit_part.Proof.ValidateEntry.{validate-entry-entry-key-requires, validate-entry-node-kind-requires, validate-entry-returns, validate-entry-node-a-requires, validate-entry-choose-requires, validate-entry-enum-told, validate-entry-enum-told-2, validate-entry-refuse-requires, validate-entry-enum-known-part, validate-entry-entry-value-requires, validate-entry-accepts-requires, validate-entry-returns-2, validate-entry-visit-part-requires, validate-entry-returns-3, validate-entry-returns-4, validate-entry-same-length, validate-entry-same-length-2, validate-entry-returns-5}
 use Rattle.validator.proofs.walk.+any_later+inner+reference+validate_all_of+validate_any_of+validate_array+validate_entry+validate_object+visit+visit_part.Proof.ValidateObject.{validate-object-Inv-loop, validate-object-μ-loop, validate-object-check-object-requires, validate-object-enum-told, validate-object-judged-requires, validate-object-returns, validate-object-node-b-requires, validate-object-loop-holds, validate-object-validate-entry-requires, validate-object-enum-told-2, validate-object-same-length, validate-object-same-length-2, validate-object-returns-2, validate-object-add-k, validate-object-loop-less, validate-object-loop-again, validate-object-same-length-3, validate-object-same-length-4, validate-object-returns-3}
 use Rattle.validator.proofs.walk.+any_later+inner+reference+validate_all_of+validate_any_of+validate_array+validate_entry+validate_object+visit+visit_part.Proof.Visit.{visit-returns, visit-sub-below, visit-schema-kind-requires, visit-reference-requires, visit-same-length, visit-same-length-2, visit-returns-2, visit-add-inner, visit-inner-requires, visit-enum-told, visit-leaves-kind-requires, visit-mark-requires, visit-same-length-3, visit-same-length-4, visit-returns-3, visit-same-length-5, visit-same-length-6, visit-returns-4}
@@ -196,14 +196,18 @@ pub +any-later+inner+reference+validate-all-of+validate-any-of+validate-array+va
     (validate-array-node-b-requires t)
     (validate-array-loop-holds t)
     (validate-array-link-requires t)
+    (validate-array-accepts-requires t)
+    (validate-array-add-i t)
+    (validate-array-loop-less t)
+    (validate-array-loop-again t)
     (validate-array-visit-part-requires t)
     (validate-array-enum-told-2 t)
     (validate-array-same-length t)
     (validate-array-same-length-2 t)
     (validate-array-returns-3 t)
-    (validate-array-add-i t)
-    (validate-array-loop-less t)
-    (validate-array-loop-again t)
+    (validate-array-add-i-2 t)
+    (validate-array-loop-less-2 t)
+    (validate-array-loop-again-2 t)
     (validate-array-same-length-3 t)
     (validate-array-same-length-4 t)
     (validate-array-returns-4 t))

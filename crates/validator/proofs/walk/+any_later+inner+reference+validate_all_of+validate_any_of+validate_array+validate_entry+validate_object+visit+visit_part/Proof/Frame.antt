@@ -33,10 +33,10 @@ use Rattle.validator.proofs.walk.+any_later+inner+reference+validate_al
 use Rattle.validator.proofs.walk.visit_part.Reads as visit-part
 use Rattle.validator.proofs.walk.visit_part.Kinds as visit-part-kinds
 use Rattle.validator.proofs.walk.+any_later+inner+reference+validate_all_of+validate_any_of+validate_array+validate_entry+validate_object+visit+visit_part.Lts-visit_part as visit-part-lts
-use Rattle.judge.proofs.array.check_array.Reads as check-array-reads
-use Rattle.judge.proofs.array.validate_enum.Reads as validate-enum-reads
+use Rattle.listed.proofs.check_array.Reads as check-array-reads
+use Rattle.listed.proofs.validate_enum.Reads as validate-enum-reads
 use Rattle.judge.proofs.numeric.validate_number.Reads as validate-number-reads
-use Rattle.judge.proofs.object.check_object.Reads as check-object-reads
+use Rattle.objects.proofs.check_object.Reads as check-object-reads
 use Rattle.judge.proofs.string.validate_string.Reads as validate-string-reads
 use Rattle.judge.proofs.validate_boolean.Reads as validate-boolean-reads
 use Rattle.judge.proofs.validate_null.Reads as validate-null-reads
@@ -221,7 +221,7 @@ abbrev pub validate-any-of-calls : ℕ → validate-any-of-lts.Claims
 validate-any-of-calls t = (list-first-reads.Asked, list-first-reads.Learnt, list-count-reads.Asked, list-count-reads.Learnt, link-reads.Asked, link-reads.Learnt, visit-below t, visit.Post, any-later-below t, any-later.Post)
 
 abbrev pub validate-array-calls : ℕ → validate-array-lts.Claims
-validate-array-calls t = (check-array-reads.Asked, check-array-reads.Learnt, judged-reads.Asked, judged-reads.Learnt, array-items-reads.Asked, array-items-reads.Learnt, node-a-reads.Asked, node-a-reads.Learnt, node-b-reads.Asked, node-b-reads.Learnt, link-reads.Asked, link-reads.Learnt, visit-part-below t, visit-part.Post)
+validate-array-calls t = (check-array-reads.Asked, check-array-reads.Learnt, judged-reads.Asked, judged-reads.Learnt, array-items-reads.Asked, array-items-reads.Learnt, node-a-reads.Asked, node-a-reads.Learnt, node-b-reads.Asked, node-b-reads.Learnt, link-reads.Asked, link-reads.Learnt, accepts-reads.Asked, accepts-reads.Learnt, visit-part-below t, visit-part.Post)
 
 abbrev pub validate-entry-calls : ℕ → validate-entry-lts.Claims
 validate-entry-calls t = (entry-key-reads.Asked, entry-key-reads.Learnt, node-kind-reads.Asked, node-kind-reads.Learnt, node-a-reads.Asked, node-a-reads.Learnt, choose-reads.Asked, choose-reads.Learnt, refuse-reads.Asked, refuse-reads.Learnt, entry-value-reads.Asked, entry-value-reads.Learnt, accepts-reads.Asked, accepts-reads.Learnt, visit-part-below t, visit-part.Post)

@@ -11,6 +11,7 @@ use Rattle.validator.specs.Met.{Calm, arrayIn}
 use Rattle.validator.proofs.Buffers as bufs
 use Rattle.validator.proofs.Loops as loops
 use Rattle.validator.proofs.ByKind as kinds
+use Rattle.validator.proofs.Early.{says-accepted}
 use Prim.Native.Nat.{ℕ}
 use Rattle.validator.proofs.walk.validate_array.Reads as validate-array
 use Rattle.validator.proofs.walk.+any_later+inner+reference+validate_all_of+validate_any_of+validate_array+validate_entry+validate_object+visit+visit_part.Lts-validate_array as validate-array-lts
@@ -52,29 +53,41 @@ validate-array-loop-holds t c = (omega arith, kinds.array-items _ _ _ _ _ _ (c .
 pub validate-array-link-requires : (t : ℕ) → validate-array-lts.Need-link-requires (validate-array-calls t) (validate-array-at t) validate-array.Post validate-array-Inv-loop validate-array-μ-loop
 validate-array-link-requires t c κs = search needs
 
+pub validate-array-accepts-requires : (t : ℕ) → validate-array-lts.Need-accepts-requires (validate-array-calls t) (validate-array-at t) validate-array.Post validate-array-Inv-loop validate-array-μ-loop
+validate-array-accepts-requires t c κs = search needs
+
+pub validate-array-add-i : (t : ℕ) → validate-array-lts.Need-add-i (validate-array-calls t) (validate-array-at t) validate-array.Post validate-array-Inv-loop validate-array-μ-loop
+validate-array-add-i t c = omega (arith, c .before .before .before .loop-test .taken, c .before .before .before .before .before .node-b .ok)
+
+pub validate-array-loop-less : (t : ℕ) → validate-array-lts.Need-loop-less (validate-array-calls t) (validate-array-at t) validate-array.Post validate-array-Inv-loop validate-array-μ-loop
+validate-array-loop-less t c = omega (arith, c .before .before .before .loop-test .taken)
+
+pub validate-array-loop-again : (t : ℕ) → validate-array-lts.Need-loop-again (validate-array-calls t) (validate-array-at t) validate-array.Post validate-array-Inv-loop validate-array-μ-loop
+validate-array-loop-again t c = (omega (arith, c .before .before .before .loop-test .taken), kinds.items-on _ _ _ _ (c .before .before .before .before .before .before .before .before .before .before .before .before .before .before .before .before .before .before .before .before .before .before .before .args .links .now) (c .before .before .before .before .before .before .node-a .result) (c .before .before .before .before .before .node-b .result) (c .before .before .before .before .loop .i) (c .before .before .link .result) (c .before .before .before .loop-test .taken) (c .before .before .link .ensures) _ (c .before .before .before .before .loop .inv .1) (says-accepted (c .before .accepts .ensures) (c .if2 .taken)), c .before .before .before .before .loop .inv .2, c .before .before .before .before .loop .inv .3)
+
 pub validate-array-visit-part-requires : (t : ℕ) → validate-array-lts.Need-visit-part-requires (validate-array-calls t) (validate-array-at t) validate-array.Post validate-array-Inv-loop validate-array-μ-loop
-validate-array-visit-part-requires t c κs = omega (arith, c .before .before .before .before .before .before .before .before .before .before .before .before .before .before .before .before .before .before .before .before .before .before .before .pre, c .before .before .before .before .loop .inv .2 .long, c .before .before .before .before .loop .inv .3 .long, c .before .before .before .before .loop .inv .0)
+validate-array-visit-part-requires t c κs = omega (arith, c .before .before .before .before .before .before .before .before .before .before .before .before .before .before .before .before .before .before .before .before .before .before .before .before .before .pre, c .before .before .before .before .before .before .loop .inv .2 .long, c .before .before .before .before .before .before .loop .inv .3 .long, c .before .before .before .before .before .before .loop .inv .0)
 
 pub validate-array-enum-told-2 : (t : ℕ) → validate-array-lts.Need-enum-told-2 (validate-array-calls t) (validate-array-at t) validate-array.Post validate-array-Inv-loop validate-array-μ-loop
 validate-array-enum-told-2 t c = search needs
 
 pub validate-array-same-length : (t : ℕ) → validate-array-lts.Need-same-length (validate-array-calls t) (validate-array-at t) validate-array.Post validate-array-Inv-loop validate-array-μ-loop
-validate-array-same-length t c = omega (arith, c .before .before .before .before .before .before .before .before .before .before .before .before .before .before .before .before .before .before .before .before .before .before .before .before .before .before .before .before .before .pre, c .before .before .before .before .before .before .before .before .before .before .loop .inv .2 .long, c .before .before .before .before .before .before .before .before .before .before .loop .inv .3 .long, c .before .before .before .before .before .before .before .before .before .before .loop .inv .0, c .before .before .before .before .before .visit-part .ensures .calm-i .long, c .before .before .before .before .before .visit-part .ensures .calm-s .long)
+validate-array-same-length t c = omega (arith, c .before .before .before .before .before .before .before .before .before .before .before .before .before .before .before .before .before .before .before .before .before .before .before .before .before .before .before .before .before .before .before .pre, c .before .before .before .before .before .before .before .before .before .before .before .before .loop .inv .2 .long, c .before .before .before .before .before .before .before .before .before .before .before .before .loop .inv .3 .long, c .before .before .before .before .before .before .before .before .before .before .before .before .loop .inv .0, c .before .before .before .before .before .visit-part .ensures .calm-i .long, c .before .before .before .before .before .visit-part .ensures .calm-s .long)
 
 pub validate-array-same-length-2 : (t : ℕ) → validate-array-lts.Need-same-length-2 (validate-array-calls t) (validate-array-at t) validate-array.Post validate-array-Inv-loop validate-array-μ-loop
-validate-array-same-length-2 t c = omega (arith, c .before .before .before .before .before .before .before .before .before .before .before .before .before .before .before .before .before .before .before .before .before .before .before .before .before .before .before .before .before .pre, c .before .before .before .before .before .before .before .before .before .before .loop .inv .2 .long, c .before .before .before .before .before .before .before .before .before .before .loop .inv .3 .long, c .before .before .before .before .before .before .before .before .before .before .loop .inv .0, c .before .before .before .before .before .visit-part .ensures .calm-i .long, c .before .before .before .before .before .visit-part .ensures .calm-s .long)
+validate-array-same-length-2 t c = omega (arith, c .before .before .before .before .before .before .before .before .before .before .before .before .before .before .before .before .before .before .before .before .before .before .before .before .before .before .before .before .before .before .before .pre, c .before .before .before .before .before .before .before .before .before .before .before .before .loop .inv .2 .long, c .before .before .before .before .before .before .before .before .before .before .before .before .loop .inv .3 .long, c .before .before .before .before .before .before .before .before .before .before .before .before .loop .inv .0, c .before .before .before .before .before .visit-part .ensures .calm-i .long, c .before .before .before .before .before .visit-part .ensures .calm-s .long)
 
 pub validate-array-returns-3 : (t : ℕ) → validate-array-lts.Need-returns-3 (validate-array-calls t) (validate-array-at t) validate-array.Post validate-array-Inv-loop validate-array-μ-loop
-validate-array-returns-3 t c = bufs.met-is _ _ _ _ _ _ _ _ _ _ (kinds.items-stop _ _ _ _ (c .before .before .before .before .before .before .before .before .before .before .before .before .before .before .before .before .before .before .before .before .before .before .before .before .before .before .before .before .before .args .links .now) (c .before .before .before .before .before .before .before .before .before .before .before .before .node-a .result) (c .before .before .before .before .before .before .before .before .before .before .before .node-b .result) (c .before .before .before .before .before .before .before .before .before .before .loop .i) (c .before .before .before .before .before .before .before .before .link .result) (c .before .before .before .before .before .before .before .before .before .loop-test .taken) (c .before .before .before .before .before .before .before .before .link .ensures) _ _ _ _ (c .before .before .before .before .before .before .before .before .before .before .loop .inv .1) (c .before .before .before .before .before .visit-part .ensures .answer) (c .match2 .keys2)) (bufs.met-through _ _ _ _ _ _ _ _ _ _ _ (c .before .before .before .before .before .before .before .before .before .before .loop .inv .2) (c .before .before .before .before .before .before .before .before .before .before .loop .inv .3) (c .before .before .before .before .before .visit-part .ensures))
+validate-array-returns-3 t c = bufs.met-is _ _ _ _ _ _ _ _ _ _ (kinds.items-stop _ _ _ _ (c .before .before .before .before .before .before .before .before .before .before .before .before .before .before .before .before .before .before .before .before .before .before .before .before .before .before .before .before .before .before .before .args .links .now) (c .before .before .before .before .before .before .before .before .before .before .before .before .before .before .node-a .result) (c .before .before .before .before .before .before .before .before .before .before .before .before .before .node-b .result) (c .before .before .before .before .before .before .before .before .before .before .before .before .loop .i) (c .before .before .before .before .before .before .before .before .before .before .link .result) (c .before .before .before .before .before .before .before .before .before .before .before .loop-test .taken) (c .before .before .before .before .before .before .before .before .before .before .link .ensures) _ _ _ _ (c .before .before .before .before .before .before .before .before .before .before .before .before .loop .inv .1) (c .before .before .before .before .before .visit-part .ensures .answer) (c .match2 .keys2)) (bufs.met-through _ _ _ _ _ _ _ _ _ _ _ (c .before .before .before .before .before .before .before .before .before .before .before .before .loop .inv .2) (c .before .before .before .before .before .before .before .before .before .before .before .before .loop .inv .3) (c .before .before .before .before .before .visit-part .ensures))
 
-pub validate-array-add-i : (t : ℕ) → validate-array-lts.Need-add-i (validate-array-calls t) (validate-array-at t) validate-array.Post validate-array-Inv-loop validate-array-μ-loop
-validate-array-add-i t c = omega (arith, c .before .before .before .before .before .before .before .before .before .before .loop-test .taken, c .before .before .before .before .before .before .before .before .before .before .before .before .node-b .ok)
+pub validate-array-add-i-2 : (t : ℕ) → validate-array-lts.Need-add-i-2 (validate-array-calls t) (validate-array-at t) validate-array.Post validate-array-Inv-loop validate-array-μ-loop
+validate-array-add-i-2 t c = omega (arith, c .before .before .before .before .before .before .before .before .before .before .before .before .loop-test .taken, c .before .before .before .before .before .before .before .before .before .before .before .before .before .before .node-b .ok)
 
-pub validate-array-loop-less : (t : ℕ) → validate-array-lts.Need-loop-less (validate-array-calls t) (validate-array-at t) validate-array.Post validate-array-Inv-loop validate-array-μ-loop
-validate-array-loop-less t c = omega (arith, c .before .before .before .before .before .before .before .before .before .before .loop-test .taken)
+pub validate-array-loop-less-2 : (t : ℕ) → validate-array-lts.Need-loop-less-2 (validate-array-calls t) (validate-array-at t) validate-array.Post validate-array-Inv-loop validate-array-μ-loop
+validate-array-loop-less-2 t c = omega (arith, c .before .before .before .before .before .before .before .before .before .before .before .before .loop-test .taken)
 
-pub validate-array-loop-again : (t : ℕ) → validate-array-lts.Need-loop-again (validate-array-calls t) (validate-array-at t) validate-array.Post validate-array-Inv-loop validate-array-μ-loop
-validate-array-loop-again t c = (omega (arith, c .before .before .before .before .before .before .before .before .before .before .loop-test .taken), kinds.items-more _ _ _ _ (c .before .before .before .before .before .before .before .before .before .before .before .before .before .before .before .before .before .before .before .before .before .before .before .before .before .before .before .before .before .before .args .links .now) (c .before .before .before .before .before .before .before .before .before .before .before .before .before .node-a .result) (c .before .before .before .before .before .before .before .before .before .before .before .before .node-b .result) (c .before .before .before .before .before .before .before .before .before .before .before .loop .i) (c .before .before .before .before .before .before .before .before .before .link .result) (c .before .before .before .before .before .before .before .before .before .before .loop-test .taken) (c .before .before .before .before .before .before .before .before .before .link .ensures) _ _ _ _ (c .before .before .before .before .before .before .before .before .before .before .before .loop .inv .1) (c .before .before .before .before .before .before .visit-part .ensures .answer) (c .enum-told2 .given .1), bufs.calm-through _ _ _ _ _ (c .before .before .before .before .before .before .before .before .before .before .before .loop .inv .2) (c .before .before .before .before .before .before .visit-part .ensures .calm-i), bufs.calm-through _ _ _ _ _ (c .before .before .before .before .before .before .before .before .before .before .before .loop .inv .3) (c .before .before .before .before .before .before .visit-part .ensures .calm-s))
+pub validate-array-loop-again-2 : (t : ℕ) → validate-array-lts.Need-loop-again-2 (validate-array-calls t) (validate-array-at t) validate-array.Post validate-array-Inv-loop validate-array-μ-loop
+validate-array-loop-again-2 t c = (omega (arith, c .before .before .before .before .before .before .before .before .before .before .before .before .loop-test .taken), kinds.items-more _ _ _ _ (c .before .before .before .before .before .before .before .before .before .before .before .before .before .before .before .before .before .before .before .before .before .before .before .before .before .before .before .before .before .before .before .before .args .links .now) (c .before .before .before .before .before .before .before .before .before .before .before .before .before .before .before .node-a .result) (c .before .before .before .before .before .before .before .before .before .before .before .before .before .before .node-b .result) (c .before .before .before .before .before .before .before .before .before .before .before .before .before .loop .i) (c .before .before .before .before .before .before .before .before .before .before .before .link .result) (c .before .before .before .before .before .before .before .before .before .before .before .before .loop-test .taken) (c .before .before .before .before .before .before .before .before .before .before .before .link .ensures) _ _ _ _ (c .before .before .before .before .before .before .before .before .before .before .before .before .before .loop .inv .1) (c .before .before .before .before .before .before .visit-part .ensures .answer) (c .enum-told2 .given .1), bufs.calm-through _ _ _ _ _ (c .before .before .before .before .before .before .before .before .before .before .before .before .before .loop .inv .2) (c .before .before .before .before .before .before .visit-part .ensures .calm-i), bufs.calm-through _ _ _ _ _ (c .before .before .before .before .before .before .before .before .before .before .before .before .before .loop .inv .3) (c .before .before .before .before .before .before .visit-part .ensures .calm-s))
 
 pub validate-array-same-length-3 : (t : ℕ) → validate-array-lts.Need-same-length-3 (validate-array-calls t) (validate-array-at t) validate-array.Post validate-array-Inv-loop validate-array-μ-loop
 validate-array-same-length-3 t c = omega (arith, c .before .before .before .before .before .before .before .before .before .before .before .before .before .before .before .before .before .before .before .before .pre, c .before .loop .inv .2 .long, c .before .loop .inv .3 .long, c .before .loop .inv .0)

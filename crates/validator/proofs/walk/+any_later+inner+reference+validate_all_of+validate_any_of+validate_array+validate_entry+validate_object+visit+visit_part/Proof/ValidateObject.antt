@@ -13,7 +13,7 @@ use Prim.Native.Nat.{ℕ}
 use Rattle.validator.proofs.walk.validate_entry.Reads as validate-entry
 use Rattle.validator.proofs.walk.validate_object.Reads as validate-object
 use Rattle.validator.proofs.walk.+any_later+inner+reference+validate_all_of+validate_any_of+validate_array+validate_entry+validate_object+visit+visit_part.Lts-validate_object as validate-object-lts
-use Rattle.judge.proofs.object.check_object.Reads as check-object-reads
+use Rattle.objects.proofs.check_object.Reads as check-object-reads
 use Rattle.layout.proofs.words.node_b.Reads as node-b-reads
 use Rattle.validator.proofs.paths.judged.Reads as judged-reads
 use Rattle.validator.proofs.walk.+any_later+inner+reference+validate_all_of+validate_any_of+validate_array+validate_entry+validate_object+visit+visit_part.Proof.Frame.{validate-entry-below, validate-object-at, validate-object-calls}

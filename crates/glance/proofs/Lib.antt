@@ -1,0 +1,4 @@
+pub mod Says
+pub mod Order
+pub mod Keys
+pub mod Leaves

@@ -1,0 +1,4 @@
+pub mod Steps
+pub mod Weave
+pub mod Entries
+pub mod Laid
