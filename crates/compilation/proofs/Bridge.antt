@@ -6,7 +6,9 @@ use native.Mathlib.Omega.{arith}
 use lib.ListN.{length, take}
 use lib.Seq.{length-take-le}
 use Rattle.error.specs.declared.Used.{Used}
+use Rattle.error.specs.Paths.{levels}
 use Rattle.layout.specs.Layout.{Tables, noteCount, schemaCount, mostNotes, mostSchemas, mostLinks}
+use Rattle.lookup.specs.Lookup.{findIn}
 use Rattle.tables.specs.declared.check.Fault.the-variants.{Sound}
 use Rattle.tables.specs.Check.{usedSize}
 use Rattle.tables.specs.Facts.{WellFormed}
@@ -84,17 +86,17 @@ module _ (T : Tables) (u : Used) (sound : usedFault T u ≡ Sound) where
   unfolding roomOf noteCount schemaCount
   rooms = rooms-are (sourceFor T u) (roomOf T) refl refl refl
 
-  pub compiled-same : (s : ℕ) → s < u .schemas → Same (sourceFor T u) (compileAt (sourceFor T u) 64 (stateFor T u) s) (compiledOf T u s)
-  unfolding compiledOf usedTables stateOf
-  compiled-same s h = visits-same rooms (T .nodes) (T .patterns) (T .numbers) used-good schemas-long 64 (stateFor T u) s begins h
+  pub compiled-same : (s : ℕ) → s < u .schemas → Same (sourceFor T u) (compileAt (sourceFor T u) levels (stateFor T u) s) (compiledOf T u s)
+  unfolding compiledOf usedTables stateOf findIn
+  compiled-same s h = visits-same rooms (T .nodes) (T .patterns) (T .numbers) used-good schemas-long levels (stateFor T u) s begins h
 
   -- the same refusal, or the same record and the same words
-  pub bridge : (s : ℕ) → s < u .schemas → toResult (compileAt (sourceFor T u) 64 (stateFor T u) s) ≡ compiledOf T u s
+  pub bridge : (s : ℕ) → s < u .schemas → toResult (compileAt (sourceFor T u) levels (stateFor T u) s) ≡ compiledOf T u s
   bridge s h = same-result (compiled-same s h)
 
   -- what the public call has in hand: where it ends well, the words and their counts
-  pub compiled-done : (s : ℕ) → s < u .schemas → {st : State} {n : ℕ} → compileAt (sourceFor T u) 64 (stateFor T u) s ≡ done st n → (compiledOf T u s ≡ ok n (wordsIn st)) × Grown (sourceFor T u) st
+  pub compiled-done : (s : ℕ) → s < u .schemas → {st : State} {n : ℕ} → compileAt (sourceFor T u) levels (stateFor T u) s ≡ done st n → (compiledOf T u s ≡ ok n (wordsIn st)) × Grown (sourceFor T u) st
   compiled-done s h {st} {n} e = (sym (bridge s h) ∙ ap toResult e, made-grown (compiled-same s h) st n e)
 
-  pub compiled-refused : (s : ℕ) → s < u .schemas → {k : ℕ} → compileAt (sourceFor T u) 64 (stateFor T u) s ≡ refused k → compiledOf T u s ≡ refuse k
+  pub compiled-refused : (s : ℕ) → s < u .schemas → {k : ℕ} → compileAt (sourceFor T u) levels (stateFor T u) s ≡ refused k → compiledOf T u s ≡ refuse k
   compiled-refused s h e = sym (bridge s h) ∙ ap toResult e

@@ -14,7 +14,7 @@ use Rattle.text.specs.Text.{sameText}
 use Rattle.layout.specs.Layout.{Tables, tables, NONE, schemaKind, schemaCount, basesFirst, basesCount, entryCount, entrySchema}
 use Rattle.lookup.specs.declared.Found.{Found}
 use Rattle.lookup.specs.declared.Found.the-variants.{At, Nothing}
-use Rattle.lookup.specs.Find.{lastBelow, foundAt}
+use Rattle.lookup.specs.Find.{lastBelow, foundAt, toOption}
 use Rattle.lookup.specs.Lookup.{entryIsNamed, resolveOf}
 use Rattle.tables.specs.Facts.{WellFormed}
 use Rattle.tables.proofs.Facts.{SchemaFacts, schema-facts, entry-facts}
@@ -24,7 +24,6 @@ use Rattle.merge.specs.Pairs.{listOf}
 use Rattle.compilation.specs.State.{Source, State, Out, done, refused}
 use Rattle.compilation.specs.Table.{field, plainAt, derivedAt, isBuilt, isEager, onFound, nodeAt, compileAt}
 use Rattle.compilation.specs.Compile.{Result, Room, eagerly, compileShape, compileAt as compiled}
-use Rattle.compilation.specs.Entry.{targetOf}
 use Rattle.compilation.proofs.Grows.{Grown}
 use Rattle.compilation.proofs.Same.{wordsIn, Same, made, stopped, Rooms}
 use Rattle.compilation.proofs.Children.{Follows}
@@ -68,7 +67,7 @@ visitAt C go st s =
     (pick (isBuilt (field C s 0)) (nodeAt C go st s) (done st s)))
 
 abbrev pub targetIn : Source → ℕ → Option ℕ
-targetIn C name = targetOf (resolveOf (C .pool) (C .texts) (C .registry) name)
+targetIn C name = toOption (resolveOf (C .pool) (C .texts) (C .registry) name)
 
 bases-none : (t : Words) (s : ℕ) → basesFirst (t .schemas) s ≡ NONE → bases t s ≡ none
 unfolding bases
@@ -152,7 +151,7 @@ module _ {C : Source} {R : Room} (rooms : Rooms C R) (nodes patterns numbers : L
             (derived-same rooms (targetIn C) whole go to follows s h st g (seen t s) own (facts .object e .bases there))
 
     -- an eager ref's target is a record of the source
-    eager-same : (x : Found) → FoundBelow (C .count) x → Same C (onFound x (go st) (refused 32)) (eagerly R same (targetIn C) to (targetOf x) t)
+    eager-same : (x : Found) → FoundBelow (C .count) x → Same C (onFound x (go st) (refused 32)) (eagerly R same (targetIn C) to (toOption x) t)
     eager-same (At i) l = follows st i g l
     eager-same Nothing l = stopped 32
 

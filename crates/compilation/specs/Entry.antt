@@ -1,18 +1,16 @@
 -- Document 01, "Compiling": what the public call answers, and what it leaves in the three lent tables. Assumes nothing.
-use Prim.Native.Nat.{ℕ, _-_, _*_}
-use mathlib.Core.List.{List, _++_}
-use mathlib.Core.Option.{Option, some, none}
-use lib.ListN.{length, take, replicate}
+use Prim.Native.Nat.{ℕ, _*_}
+use mathlib.Core.List.{List}
+use lib.ListN.{length, take}
 use lib.Dec.{leb}
 use Rattle.text.specs.Choice.{pick}
-use Rattle.text.specs.Text.{sameText}
+use Rattle.text.specs.Text.{sameText, padded}
 use Rattle.error.specs.declared.Answer.{Answer}
 use Rattle.error.specs.declared.Used.{Used}
 use Rattle.error.specs.Answers.{plainAnswer, badTable, foundRecord, withUsed}
+use Rattle.error.specs.Paths.{levels}
 use Rattle.layout.specs.Layout.{Tables, noteWords, schemaWords, mostNotes, mostSchemas, mostLinks, noteCount, schemaCount}
-use Rattle.lookup.specs.declared.Found.{Found}
-use Rattle.lookup.specs.declared.Found.the-variants.{At, Nothing}
-use Rattle.lookup.specs.Lookup.{resolveOf}
+use Rattle.lookup.specs.Lookup.{findIn}
 use Rattle.tables.specs.declared.check.Fault.{Fault}
 use Rattle.tables.specs.declared.check.Fault.the-variants.{Sound, Bad}
 use Rattle.tables.specs.Check.{usedSize, sizesFault, recordsFault, orElse}
@@ -63,23 +61,20 @@ roomOf T =
       links = atMost mostLinks (length (T .links));
     }
 
--- an eager ref's target: the last registry entry of that name
-abbrev pub targetOf : Found → Option ℕ
-targetOf (At s) = some s
-targetOf Nothing = none
-
--- 64 compile visits may nest
+-- 64 compile visits may nest; an eager ref's target is the last registry entry of that name
 unfoldable pub compiledOf : Tables → Used → ℕ → Result ℕ
 compiledOf T u s =
-    compileAt (roomOf T) (sameText (T .pool) (T .texts)) (λ name. targetOf (resolveOf (T .pool) (T .texts) (T .registry) name))
-    64 s (wordsOf (usedTables T u))
+    compileAt (roomOf T) (sameText (T .pool) (T .texts)) (findIn T) levels s (wordsOf (usedTables T u))
 
 -- what is kept, and 0 for all room past it, to the end of what is lent
-unfoldable pub keptIn : List ℕ → List ℕ → List ℕ
-keptIn lent kept = kept ++ replicate (length lent - length kept) 0
-
 abbrev pub leave : Tables → Answer → Words → Compiled
-leave T a t = record { answer = a; notes = keptIn (T .notes) (t .notes); schemas = keptIn (T .schemas) (t .schemas); links = keptIn (T .links) (t .links) }
+leave T a t =
+    record {
+      answer = a;
+      notes = padded (t .notes) (length (T .notes));
+      schemas = padded (t .schemas) (length (T .schemas));
+      links = padded (t .links) (length (T .links));
+    }
 
 abbrev pub countsOf : Words → Used
 countsOf t = record { notes = noteCount (t .notes); schemas = schemaCount (t .schemas); links = length (t .links) }

@@ -47,7 +47,7 @@ groupAt C go st s =
     andThen (addLinks C st₁ ns) (λ st₂ first. addSchema C st₂ (groupRecord C s first)))
 
 abbrev pub optional : (State → ℕ → Out) → State → ℕ → Out
-optional go st s = pick (eqb s 4294967295) (done st 4294967295) (go st s)
+optional go st s = pick (eqb s NONE) (done st NONE) (go st s)
 
 abbrev pub arrayRecord : Source → ℕ → ℕ → List ℕ
 arrayRecord C s items = field C s 0 ∷ field C s 1 ∷ items ∷ field C s 3 ∷ field C s 4 ∷ field C s 5 ∷ 0 ∷ 0 ∷ 0 ∷ 0 ∷ 0 ∷ 0 ∷ 0 ∷ 0 ∷ 0 ∷ 0 ∷ []
@@ -62,21 +62,21 @@ allObjects S (n ∷ ns) = both (eqb (schemaWord S n 0) 10) (allObjects S ns)
 
 -- a field of a record's note; NONE where there is no note
 unfoldable pub noteWord : List ℕ → List ℕ → ℕ → ℕ → ℕ
-noteWord N S b k = pick (eqb (schemaWord S b 1) 4294967295) 4294967295 (getD N (schemaWord S b 1 * 9 + k) 0)
+noteWord N S b k = pick (eqb (schemaWord S b 1) NONE) NONE (getD N (schemaWord S b 1 * 9 + k) 0)
 
 -- the field j of the last of the records whose field k is present, else d
 unfoldable pub lastWord : List ℕ → List ℕ → ℕ → ℕ → ℕ → List ℕ → ℕ
 lastWord N S k j d [] = d
-lastWord N S k j d (b ∷ bs) = lastWord N S k j (pick (eqb (noteWord N S b k) 4294967295) d (noteWord N S b j)) bs
+lastWord N S k j d (b ∷ bs) = lastWord N S k j (pick (eqb (noteWord N S b k) NONE) d (noteWord N S b j)) bs
 
 abbrev orWord : ℕ → ℕ → ℕ
-orWord own other = pick (eqb own 4294967295) other own
+orWord own other = pick (eqb own NONE) other own
 
 -- the bases' notes field by field, later present over earlier, id dropped; of the derived note only a present description
 unfoldable pub mergedNoteIn : List ℕ → List ℕ → List ℕ → List ℕ → ℕ → List ℕ → List ℕ
 mergedNoteIn N₀ S₀ N S s bs =
-    let last : ℕ → ℕ = λ k. lastWord N S k k 4294967295 bs in
-    4294967295 ∷ orWord (noteWord N₀ S₀ s 1) (last 1) ∷ last 2 ∷ last 3 ∷ last 4 ∷ last 5 ∷ last 6 ∷ last 7 ∷ lastWord N S 7 8 0 bs ∷ []
+    let last : ℕ → ℕ = λ k. lastWord N S k k NONE bs in
+    NONE ∷ orWord (noteWord N₀ S₀ s 1) (last 1) ∷ last 2 ∷ last 3 ∷ last 4 ∷ last 5 ∷ last 6 ∷ last 7 ∷ lastWord N S 7 8 0 bs ∷ []
 
 unfoldable pub mergedNote : Source → State → ℕ → List ℕ → List ℕ
 mergedNote C st s bs = mergedNoteIn (C .notes) (C .schemas) (st .notes) (st .schemas) s bs

@@ -10,14 +10,16 @@ use lib.ListN.{length, take}
 use lib.Seq.{length-take-le, take-all}
 use lib.Dec.{eqb}
 use Rattle.text.specs.Choice.{pick, le-or-lt}
+use Rattle.text.specs.Text.{padded}
 use Rattle.layout.specs.Layout.{Tables}
 use Rattle.error.specs.declared.Used.{Used}
 use Rattle.error.specs.declared.Answer.{Answer}
 use Rattle.error.specs.Answers.{plainAnswer, badTable, foundRecord, withUsed}
+use Rattle.error.specs.Paths.{levels}
 use Rattle.append.specs.Append.{cleared}
 use Rattle.tables.specs.declared.check.Fault.the-variants.{Sound, Bad}
 use Rattle.compilation.specs.Compile.{Result}
-use Rattle.compilation.specs.Entry.{Compiled, keptIn, usedTables, usedFault, finished, compileOf}
+use Rattle.compilation.specs.Entry.{Compiled, usedTables, usedFault, finished, compileOf}
 use Rattle.compilation.specs.State.{Source, Out, done, refused, sourceOf, stateOf}
 use Rattle.compilation.specs.Table.{compileAt}
 use Rattle.derive.specs.Meets.{outOf}
@@ -28,8 +30,8 @@ use Rattle.compilation.proofs.Same.{Same, made, stopped}
 use Rattle.compilation.proofs.Bridge.{sourceFor, stateFor, counts-are, compiled-same}
 
 -- clearing keeps the used words, however many are lent
-pub cleared-kept : (lent words words′ kept : List ℕ) (used : ℕ) → words′ ≡ cleared words used → take used words ≡ kept → length words ≡ length lent → words′ ≡ keptIn lent kept
-unfolding cleared keptIn
+pub cleared-kept : (lent words words′ kept : List ℕ) (used : ℕ) → words′ ≡ cleared words used → take used words ≡ kept → length words ≡ length lent → words′ ≡ padded kept (length lent)
+unfolding cleared padded
 cleared-kept lent words words′ kept used e k l = e ∙ rw (← k, ← l, room)
   where
     room : length words - length (take used words) ≡ length words - used
@@ -113,6 +115,6 @@ module _ (T : Tables) (u : Used) (s : ℕ) where
   unfolding compileOf
   answer-beyond h l x r = rw (h, le-leb (u .schemas) s l) (parts (r ∙ ap (λ (y : Answer). withUsed y u) x) refl refl refl)
 
-  pub answer-built : usedFault T u ≡ Sound → s < u .schemas → {z : Compiled} → z ≡ endedOf (T .notes) (T .schemas) (T .links) u (compileAt (sourceFor T u) 64 (stateFor T u) s) → z ≡ compileOf T u s
+  pub answer-built : usedFault T u ≡ Sound → s < u .schemas → {z : Compiled} → z ≡ endedOf (T .notes) (T .schemas) (T .links) u (compileAt (sourceFor T u) levels (stateFor T u) s) → z ≡ compileOf T u s
   unfolding compileOf
   answer-built h l e = rw (h, lt-leb (u .schemas) s l) (e ∙ ended-same T u (compiled-same T u h s l))

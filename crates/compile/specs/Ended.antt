@@ -1,14 +1,15 @@
 -- What the work answers and leaves, from what compiling over the tables gives. Assumes nothing.
 use Prim.Native.Nat.{ℕ, _*_}
 use mathlib.Core.List.{List}
-use lib.ListN.{take}
+use lib.ListN.{length, take}
 use lib.Dec.{eqb}
 use Rattle.text.specs.Choice.{pick}
+use Rattle.text.specs.Text.{padded}
 use Rattle.error.specs.declared.Used.{Used}
 use Rattle.error.specs.declared.Answer.{Answer}
 use Rattle.error.specs.Answers.{plainAnswer, foundRecord, withUsed}
 use Rattle.layout.specs.Layout.{noteWords, schemaWords}
-use Rattle.compilation.specs.Entry.{Compiled, keptIn}
+use Rattle.compilation.specs.Entry.{Compiled}
 use Rattle.compilation.specs.State.{State, Out, done, refused}
 use Rattle.derive.specs.declared.Made.{Made}
 
@@ -28,6 +29,6 @@ countedIn st = record { notes = st .un; schemas = st .us; links = st .ul }
 -- a refusal keeps only what was used before
 unfoldable pub endedOf : List ℕ → List ℕ → List ℕ → Used → Out → Compiled
 endedOf notes schemas links u (done st n) =
-    compiled (withUsed (foundRecord n) (countedIn st)) (keptIn notes (st .notes)) (keptIn schemas (st .schemas)) (keptIn links (st .links))
+    compiled (withUsed (foundRecord n) (countedIn st)) (padded (st .notes) (length notes)) (padded (st .schemas) (length schemas)) (padded (st .links) (length links))
 endedOf notes schemas links u (refused number) =
-    compiled (withUsed (plainAnswer number) u) (keptIn notes (take (u .notes * noteWords) notes)) (keptIn schemas (take (u .schemas * schemaWords) schemas)) (keptIn links (take (u .links) links))
+    compiled (withUsed (plainAnswer number) u) (padded (take (u .notes * noteWords) notes) (length notes)) (padded (take (u .schemas * schemaWords) schemas) (length schemas)) (padded (take (u .links) links) (length links))

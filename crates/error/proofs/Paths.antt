@@ -5,7 +5,8 @@ use mathlib.Core.List.{List, [], _∷_, _++_}
 use native.Mathlib.Omega.{arith}
 use lib.ListN.{length, take, replicate, length-append, length-replicate}
 use lib.Seq.{take-at}
-use Rattle.error.specs.Paths.{Step, keyStep, itemStep, stepTag, stepWord, pathWords, padded, instanceBuffer, schemaBuffer, stepOf, readPath}
+use Rattle.text.specs.Text.{padded}
+use Rattle.error.specs.Paths.{Step, keyStep, itemStep, stepTag, stepWord, pathWords, instanceBuffer, schemaBuffer, stepOf, readPath}
 
 pub path-length : (path : List Step) → length (pathWords path) ≡ length path * 2
 unfolding pathWords

@@ -1,20 +1,11 @@
 -- Document 01, "Answers by number": what an answer carries. Fields as 01 lists them; what an answer does not have is NONE, Empty or, for
 -- a count of steps, 0. Assumes nothing.
 use Prim.Native.Nat.{ℕ}
-use mathlib.Core.Bool.{Bool}
-use lib.Dec.{leb}
-use Rattle.text.specs.Choice.{both}
+pub use Rattle.text.specs.Text.{NONE}
 use Rattle.error.specs.declared.Answer.{Answer}
 use Rattle.error.specs.declared.Used.{Used}
 use Rattle.error.specs.declared.Detail.{Detail}
 use Rattle.error.specs.declared.Detail.the-variants.{Empty}
-
-abbrev pub NONE : ℕ
-NONE = 4294967295
-
--- answers 1 to 14 refuse a value, and leave paths
-unfoldable pub refuses : ℕ → Bool
-refuses number = both (leb 1 number) (leb number 14)
 
 -- calls other than compile use no records
 abbrev pub noUsed : Used

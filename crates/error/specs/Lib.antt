@@ -1,4 +1,3 @@
 pub mod Answers
 pub mod Details
 pub mod Paths
-pub mod Numbers

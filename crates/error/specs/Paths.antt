@@ -1,8 +1,12 @@
 -- Document 01, "Path buffers": instance steps as pairs (0 with key text, 1 with index), schema steps as kind numbers; all further words
 -- are 0. Assumes nothing.
-use Prim.Native.Nat.{ℕ, zero, suc, _-_}
-use mathlib.Core.List.{List, [], _∷_, _++_}
-use lib.ListN.{length, replicate}
+use Prim.Native.Nat.{ℕ, zero, suc}
+use mathlib.Core.List.{List, [], _∷_}
+use Rattle.text.specs.Text.{padded}
+
+-- 64 levels may nest, in a visit and in compiling: a path has at most as many steps
+abbrev pub levels : ℕ
+levels = 64
 
 -- a step down: into an object by a key's text, into an array by an index
 pub data Step : Type 0 where
@@ -22,10 +26,6 @@ stepWord (itemStep index) = index
 unfoldable pub pathWords : List Step → List ℕ
 pathWords [] = []
 pathWords (s ∷ path) = stepTag s ∷ stepWord s ∷ pathWords path
-
--- a buffer of n words that holds these words, and 0 after them
-unfoldable pub padded : List ℕ → ℕ → List ℕ
-padded words n = words ++ replicate (n - length words) 0
 
 -- what an instance buffer of n words holds for a path, and a schema buffer for its kinds
 unfoldable pub instanceBuffer : List Step → ℕ → List ℕ

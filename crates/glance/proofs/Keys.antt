@@ -12,11 +12,11 @@ use Rattle.text.specs.Choice.{true-or-false, le-or-lt, clash, both-holds, both-
 use Rattle.text.specs.Text.{textOf, sameText}
 use Rattle.text.proofs.Bytes.{same-complete}
 use Rattle.layout.specs.Layout.{nodeKind, nodeA, nodeB, propertiesFirst, propertiesCount, requiredFirst, requiredCount, objectMinimum, objectMaximum}
-use Rattle.lookup.specs.Find.{lastBelow}
+use Rattle.lookup.specs.Find.{lastBelow, found}
 use Rattle.lookup.specs.Lookup.{keyIs, entryKey, entryHasKey, lastEntry}
 use Rattle.schema.specs.Look.{slice}
 use Rattle.judge.specs.declared.Verdict.{Verdict}
-use Rattle.judge.specs.Judge.{isFine, found, hasKey, keysVerdict, requiredVerdict, sizeVerdict, objectFirst}
+use Rattle.judge.specs.Judge.{isFine, hasKey, keysVerdict, requiredVerdict, sizeVerdict, beforeEntries}
 use Rattle.objects.proofs.Objects.{object-in, object-sized, required-begin, required-more, required-end}
 use Rattle.glance.specs.Glance.{PassesBut, HasKey, HasRequired, numbered}
 use Rattle.glance.proofs.Says.{is-fine}
@@ -79,7 +79,7 @@ module _ (nodes schemas links : List ℕ) (n s : ℕ) where
 
 -- ---- the object
 module _ (pool texts nodes schemas links : List ℕ) (n s : ℕ) where
-  pub object-passes : {kind : ℕ} {w r : Bool} {v : Verdict} → kind ≡ nodeKind nodes n → kind ≡ 6 → HasRequired w nodes schemas links n s → w ≡ true → v ≡ sizeVerdict nodes (objectMinimum schemas s) (objectMaximum schemas s) n → r ≡ isFine v → PassesBut r (keysVerdict pool texts nodes links n) (objectFirst pool texts nodes schemas links s n)
+  pub object-passes : {kind : ℕ} {w r : Bool} {v : Verdict} → kind ≡ nodeKind nodes n → kind ≡ 6 → HasRequired w nodes schemas links n s → w ≡ true → v ≡ sizeVerdict nodes (objectMinimum schemas s) (objectMaximum schemas s) n → r ≡ isFine v → PassesBut r (keysVerdict pool texts nodes links n) (beforeEntries pool texts nodes schemas links s n)
   unfolding PassesBut HasRequired
   object-passes {kind} {w} {r} {v} ki is re wt si ri =
       λ y keys. sym (object-sized pool texts nodes schemas links s n (sym (object-in pool texts nodes links n (sym ki ∙ is) ∙ keys)) refl (sym (re wt pool texts)) refl refl)

@@ -7,20 +7,19 @@ use native.Mathlib.Omega.{arith}
 use lib.ListN.{getD}
 use lib.Dec.{eqb}
 use lib.Ieee.{Float, nan, binary64, ofBits, lt, le}
-use borrow.Author.Tests.{eqb-true}
-use Rattle.text.specs.Choice.{clash, either-left, either-right, both-left, both-right}
-use Rattle.text.specs.Text.{textOf}
+use borrow.Author.Tests.{eqb-true, eq-eqb}
+use Rattle.text.specs.Choice.{clash, either-left, either-right, both-left, both-right, both-holds}
+use Rattle.text.specs.Text.{textOf, sameText}
 use Rattle.text.proofs.Bytes.{same-complete}
 use Rattle.number.specs.declared.equal.Equality.{Equality}
 use Rattle.number.specs.Nearest.{nearestOf}
 use Rattle.number.specs.Check.{notMultipleOf}
 use Rattle.number.proofs.Passing.{absent-exclusive-minimum, absent-exclusive-maximum, absent-minimum, absent-maximum, absent-multiple, after-range}
 use Rattle.error.specs.declared.Mode.{Mode}
-use Rattle.layout.specs.Layout.{NONE, nodeKind, nodeA, nodeCount, schemaWord, listFirst, listCount, stringMinimum, stringMaximum, stringPattern, numberMinimum, numberMaximum, numberExclusiveMinimum, numberExclusiveMaximum, numberMultiple}
+use Rattle.layout.specs.Layout.{NONE, nodeKind, nodeA, schemaWord, listFirst, listCount, stringMinimum, stringMaximum, stringPattern, numberMinimum, numberMaximum, numberExclusiveMinimum, numberExclusiveMaximum, numberMultiple}
 use Rattle.lookup.specs.declared.Found.{Found}
-use Rattle.json.specs.Json.{equalJson}
-use Rattle.json.specs.Value.{valueOf, equalNodesOf}
-use Rattle.json.proofs.Values.{value-string}
+use Rattle.lookup.specs.Lookup.{keyIs}
+use Rattle.json.specs.Value.{equalNodesOf}
 use Rattle.schema.specs.Look.{slice, ownWords}
 use Rattle.schema.proofs.Slices.{own-word}
 use Rattle.judge.specs.declared.Verdict.{Verdict}
@@ -29,6 +28,7 @@ use Rattle.judge.specs.Judge.{isFine, enumWay, lengthIn, countVerdict, realAt, 
 use Rattle.judge.proofs.Verdicts.{when-equal}
 use Rattle.judge.proofs.Numbers.{real-there, number-integer}
 use Rattle.judge.proofs.Strings.{string-sized, pattern-absent}
+use Rattle.listed.proofs.Texts.{string-is}
 use Rattle.glance.specs.Glance.{Passes, numbered, atLeast, atMost}
 
 -- ---- bounds
@@ -100,10 +100,10 @@ module _ (m : Mode) (answer : ℕ → ℕ → Found) (pool texts nodes schemas :
 -- ---- enums
 -- strings of one text are equal, in every way
 same-strings : (way : Equality) (pool texts nodes links numbers : List ℕ) (n x : ℕ) → nodeKind nodes n ≡ 4 → nodeKind nodes x ≡ 4 → nodeA nodes x ≡ nodeA nodes n → equalNodesOf way pool texts nodes links numbers n x ≡ true
-unfolding equalNodesOf valueOf equalJson
+unfolding keyIs sameText
 same-strings way pool texts nodes links numbers n x p q e =
-    rw (value-string pool texts nodes links numbers (nodeCount nodes) n p, value-string pool texts nodes links numbers (nodeCount nodes) x q)
-    (same-complete (textOf pool texts (nodeA nodes n)) (textOf pool texts (nodeA nodes x)) (ap (textOf pool texts) (sym e)))
+    sym (string-is way pool texts nodes links numbers n p x)
+    ∙ both-holds (eq-eqb (nodeKind nodes x) 4 q) (same-complete (textOf pool texts (nodeA nodes x)) (textOf pool texts (nodeA nodes n)) (ap (textOf pool texts) e))
 
 -- one of the listed nodes is equal
 module _ (way : Equality) (pool texts nodes links numbers : List ℕ) (n : ℕ) where

@@ -1,13 +1,13 @@
 -- Keys in the order of their schema's properties: where the places rise, no key has the bytes of an earlier one. Assumes nothing.
-use Prim.Native.Nat.{ℕ, zero, suc, _+_, _<_, _≤_}
-use mathlib.Core.Path.{_≡_, refl, sym, ap, _∙_}
-use mathlib.Core.Bool.{Bool, true, false}
+use Prim.Native.Nat.{ℕ, _+_, _<_, _≤_}
+use mathlib.Core.Path.{_≡_, sym, ap, _∙_}
+use mathlib.Core.Bool.{true, false}
 use mathlib.Core.List.{List}
 use mathlib.Core.Logic.{⊎-elim}
 use native.Mathlib.Omega.{arith}
 use lib.Dec.{eqb, ltb}
 use borrow.Author.Tests.{eqb-true, ltb-true}
-use Rattle.text.specs.Choice.{either, true-or-false, le-or-lt, clash, not-holds, both-right, either-cases}
+use Rattle.text.specs.Choice.{either, le-or-lt, not-holds, both-right, either-cases}
 use Rattle.text.specs.Text.{textOf, sameBytes, sameText}
 use Rattle.text.proofs.Bytes.{same-sound}
 use Rattle.layout.specs.Layout.{nodeKind, nodeB, pairKey}
@@ -15,24 +15,9 @@ use Rattle.lookup.specs.declared.Found.{Found}
 use Rattle.lookup.specs.declared.Found.the-variants.{At, Nothing}
 use Rattle.lookup.specs.Find.{firstFrom}
 use Rattle.lookup.specs.Lookup.{keyIs, entryKey, entryHasKey, pairHasKey, propertyPlace}
+use Rattle.lookup.proofs.Find.{found-where, found-nowhere}
 use Rattle.judge.specs.declared.Verdict.the-variants.{Fine}
-use Rattle.judge.specs.Judge.{found, keyText, duplicateWrong, hasEarlier, isDuplicate, keysVerdict}
-
--- ---- the first of a run of places where a test holds
--- where something is found, the test holds
-pub found-where : (f : ℕ → Bool) (i n : ℕ) → found (firstFrom f i n) ≡ true → (j : ℕ) × (j < i + n) × (f j ≡ true)
-unfolding firstFrom
-found-where f i zero h = clash h refl
-found-where f i (suc n) h =
-    ⊎-elim (λ t. (i, omega arith, t))
-    (λ t. let later = found-where f (suc i) n (rw t at h) in (later .0, omega (arith, later .1), later .2))
-    (true-or-false (f i))
-
--- where it fails everywhere, nothing is found
-pub found-nowhere : (f : ℕ → Bool) (i n : ℕ) → ((j : ℕ) → j < i + n → f j ≡ false) → firstFrom f i n ≡ Nothing
-unfolding firstFrom
-found-nowhere f i zero h = refl
-found-nowhere f i (suc n) h = rw (h i (omega arith)) (found-nowhere f (suc i) n (λ j l. h j (omega arith)))
+use Rattle.judge.specs.Judge.{keyText, duplicateWrong, hasEarlier, isDuplicate, keysVerdict}
 
 place-of : Found → ℕ
 place-of (At p) = p

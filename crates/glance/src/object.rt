@@ -1,6 +1,6 @@
 // An object before its entries.
 ghost use mathlib.Core.Path.{_≡_};
-ghost use Rattle.judge.specs.Judge.{keysVerdict, objectFirst};
+ghost use Rattle.judge.specs.Judge.{keysVerdict, beforeEntries};
 ghost use Rattle.glance.specs.Glance.{PassesBut, HasKey, HasRequired, numbered};
 use layout::schema as fields;
 use layout::words;
@@ -63,7 +63,7 @@ pub fn object_passes(
     n: u32,
     s: u32,
 ) -> bool
-    ensures { λ r. ⌜ PassesBut r (keysVerdict (now (pool .entry)) (now (texts .entry)) (now (nodes .entry)) (now (links .entry)) n) (objectFirst (now (pool .entry)) (now (texts .entry)) (now (nodes .entry)) (now (schemas .entry)) (now (links .entry)) s n) ⌝ }
+    ensures { λ r. ⌜ PassesBut r (keysVerdict (now (pool .entry)) (now (texts .entry)) (now (nodes .entry)) (now (links .entry)) n) (beforeEntries (now (pool .entry)) (now (texts .entry)) (now (nodes .entry)) (now (schemas .entry)) (now (links .entry)) s n) ⌝ }
 {
     if words::node_kind(nodes, n) == 6 {
         if required_pass(nodes, schemas, links, n, s) {

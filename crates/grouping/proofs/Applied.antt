@@ -4,8 +4,8 @@ use mathlib.Core.Path.{_≡_, refl, sym, _∙_}
 use mathlib.Core.List.{[], _∷_}
 use native.Mathlib.Omega.{arith}
 use Rattle.layout.specs.Layout.{schemaCount}
+use Rattle.lookup.specs.Lookup.{findIn}
 use Rattle.schema.specs.Look.{wordsOf}
-use Rattle.validator.specs.Validate.{findIn}
 use Rattle.grouping.specs.Values.{grown}
 use Rattle.grouping.specs.Demand.{opened, compiling, SameSchema}
 use Rattle.grouping.proofs.Grouping.{bases-may-be-grouped, bases-may-be-grouped-anywhere}

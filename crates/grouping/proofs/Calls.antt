@@ -10,14 +10,14 @@ use borrow.Author.Tests.{lt-ltb, le-ltb}
 use Rattle.text.specs.Choice.{either, pick}
 use Rattle.error.specs.declared.Mode.{Mode}
 use Rattle.error.specs.Answers.{answerOf, plainAnswer, refusalOf}
-use Rattle.error.specs.Paths.{Step, instanceBuffer}
+use Rattle.error.specs.Paths.{Step, instanceBuffer, levels}
 use Rattle.error.proofs.Paths.{kinds-back}
 use Rattle.layout.specs.Layout.{Tables, nodeCount, schemaCount}
 use Rattle.tables.specs.declared.check.Fault.{Fault}
 use Rattle.tables.specs.declared.check.Fault.the-variants.{Sound, Bad}
 use Rattle.tables.specs.Check.{tablesFault}
 use Rattle.validator.specs.Outcome.{Error, Outcome, accepted, refused, invalid, ended}
-use Rattle.validator.specs.Validate.{levels, instanceWords, schemaStepWords, visitOf, Validated, emptyHanded, answered, checkedFirst, validateOf}
+use Rattle.validator.specs.Validate.{instanceWords, schemaStepWords, visitOf, Validated, emptyHanded, answered, checkedFirst, validateOf}
 use Rattle.grouping.specs.Grown.{Tree}
 use Rattle.grouping.specs.Same.{withoutAll, Refusal, Answered, accepts, refuses, invalidates, ends, refusalBy, answeredBy}
 use Rattle.grouping.specs.Demand.{opened, SameSchema, Comes, SameCall}

@@ -10,6 +10,7 @@ use lib.ListN.{replicate}
 use Rattle.text.specs.Text.{textCount, textWord, textStart, textLength, fitsIn, partOf, textFits, textOf, sameBytes, sameText}
 use Rattle.text.specs.Utf8.{leadOf, stepOf, utf8Of}
 use Rattle.error.specs.declared.Mode.the-variants as mode
+use Rattle.error.specs.Paths.{levels}
 use Rattle.layout.specs.Layout.{Tables, NONE, nodeCount, noteCount, schemaCount, entryCount, patternCount, nodeWord, noteWord, schemaWord, pairKey, pairValue, entrySchema, registryWord}
 use Rattle.layout.specs.Walk.{every, first}
 use Rattle.lists.specs.Lists.{optionalBelow, linkBelow, listBelow, pairOk, keysDiffer, keyIsNew, keysDistinct, pairsBelow, pairsOk}
@@ -19,18 +20,18 @@ use Rattle.tables.specs.declared.check.Fault.the-variants.{Sound}
 use Rattle.tables.specs.Check.{wholeSize, sizeOr, textsSize, sizesFault, recordCount, recordOk, firstBad, recordsFrom, recordsFault, lentFault, tablesFault}
 use Rattle.lookup.specs.declared.Found.the-variants.{At, Nothing}
 use Rattle.text.specs.Choice.{pick}
-use Rattle.lookup.specs.Find.{firstFrom, lastBelow, foundAt}
-use Rattle.lookup.specs.Lookup.{entryKey, entryValue, entryIsNamed, resolveOf}
+use Rattle.lookup.specs.Find.{firstFrom, lastBelow, foundAt, toOption}
+use Rattle.lookup.specs.Lookup.{entryKey, entryValue, entryIsNamed, resolveOf, findIn}
 use Rattle.schema.specs.Shape.{Object, Shape, plain, anyOf, allOf, array, object, ref}
 use Rattle.schema.specs.Look as words
 use Rattle.schema.specs.Look.{Words, wordsOf, slice, pairsFrom, ownWords, noteAt, detecting, sortNames, sortShape, raw, look, bases}
 use Rattle.merge.specs.Merge.{later, withTags, put, putAll, gather, empty}
 use Rattle.merge.specs.Pairs.{flatPairs}
-use Rattle.judge.specs.Judge.{isShort, isLong, countVerdict, mismatch, booleanVerdict, hasEarlier, isDuplicate, keysVerdict, objectVerdict, sizeVerdict, judgeOf, toOption}
+use Rattle.judge.specs.Judge.{isShort, isLong, countVerdict, mismatch, booleanVerdict, hasEarlier, isDuplicate, keysVerdict, objectVerdict, sizeVerdict, judgeOf}
 use Rattle.validator.specs.Outcome.{Outcome, accepted, refused, invalid, ended}
 use Rattle.validator.specs.Visit.{findPair, allOver, requiredOver, entriesOver, objectAt, visitBody, visitAt}
 use Rattle.validator.specs.Nodes.{entryOf, entriesFrom}
-use Rattle.validator.specs.Validate.{levels, visitOf, findIn}
+use Rattle.validator.specs.Validate.{visitOf}
 use Rattle.compilation.specs.Compile.{Result, ok, refuse, Room, objectsOf, looks, addNote, addRow, addLinks, addObject, addMerged, each, eachPair, optionally, compileShape, compileAt, addArray}
 use Rattle.grouping.specs.Tree.{mapList, flatList, readObject, readShape, openAll, openAny, viewBody, viewAt, view}
 use Rattle.grouping.specs.Grown.{Facts, Tree, tPlain, tObject, bare, grows, noBough, bough, parts, namings, forest, boughs, toParts, toNaming, grow, trees}

@@ -12,15 +12,16 @@ use native.Mathlib.Omega.{arith}
 use Rattle.text.specs.Text.{textOf, sameBytes, sameText}
 use Rattle.text.proofs.Bytes.{same-text-bytes, same-text-sound, same-text-number, same-text-sym}
 use Rattle.error.specs.declared.Mode.{Mode}
+use Rattle.error.specs.Paths.{levels}
 use Rattle.layout.specs.Layout.{Tables, NONE, schemaCount}
-use Rattle.lookup.specs.Lookup.{answerOfPattern}
+use Rattle.lookup.specs.Lookup.{answerOfPattern, findIn}
 use Rattle.tables.specs.declared.check.Fault.the-variants.{Sound}
 use Rattle.tables.specs.Check.{tablesFault}
 use Rattle.schema.specs.Look.{Words, wordsOf, look}
 use Rattle.validator.specs.Outcome.{Outcome}
 use Rattle.validator.specs.Visit.{Nodes, visitAt}
 use Rattle.validator.specs.Nodes.{nodesOf}
-use Rattle.validator.specs.Validate.{levels, findIn, visitOf}
+use Rattle.validator.specs.Validate.{visitOf}
 use Rattle.compilation.specs.Compile.{ok, Room}
 use Rattle.grouping.specs.Tree.{whole}
 use Rattle.grouping.specs.Grown.{Tree, trees}

@@ -7,13 +7,13 @@ use mathlib.Core.Option.{Option, some, none}
 use Rattle.error.specs.declared.Mode.{Mode}
 use Rattle.error.specs.declared.Detail.the-variants.{Property}
 use Rattle.layout.specs.Layout.{Tables}
-use Rattle.lookup.specs.Lookup.{answerOfPattern}
+use Rattle.lookup.specs.Lookup.{answerOfPattern, findIn}
 use Rattle.schema.specs.Shape.{Note, Pair, Object, Shape, plain, anyOf, allOf, array, object, ref}
 use Rattle.schema.specs.Look.{wordsOf, look}
 use Rattle.validator.specs.Outcome.{Error, Outcome, refused, ended, made, kinded, placed}
 use Rattle.validator.specs.Visit.{Nodes, numberOr, visitAt}
 use Rattle.validator.specs.Nodes.{nodesOf}
-use Rattle.validator.specs.Validate.{findIn, visitOf}
+use Rattle.validator.specs.Validate.{visitOf}
 use Rattle.grouping.specs.Regrouped.{Each, stop, also, Maybe, neither, both, Pairs, endPairs, pair}
 use Rattle.grouping.proofs.Simulation.{Erasure, Below, deep, accepts, refuses, invalids, ends, Opens, shut, keep, Extra, noExtra, extra, ObjectAlike, Alike, plains, anys, alls, arrays, objects, refs, Simulates, simulation}
 use Rattle.grouping.proofs.Opened.{Any, any-quiet, self}

@@ -6,12 +6,13 @@ use mathlib.Core.List.{List, [], _∷_, _++_}
 use mathlib.Core.Option.{Option, some, none}
 use native.Mathlib.Omega.{arith}
 use Rattle.text.specs.Text.{sameText}
+use Rattle.error.specs.Paths.{levels}
 use Rattle.layout.specs.Layout.{Tables, NONE, schemaCount}
+use Rattle.lookup.specs.Lookup.{findIn}
 use Rattle.tables.specs.declared.check.Fault.the-variants.{Sound}
 use Rattle.tables.specs.Check.{tablesFault}
 use Rattle.schema.specs.Shape.{Note, Pair, Own, Names, nameless, detects, named, Object, Shape, plain, anyOf, allOf, array, object, ref}
 use Rattle.schema.specs.Look.{Words, wordsOf, look, bases}
-use Rattle.validator.specs.Validate.{levels, findIn}
 use Rattle.compilation.specs.Compile.{ok, Room, objectsOf, compileAt}
 use Rattle.grouping.specs.Record.{count}
 use Rattle.grouping.specs.Tree.{Trees, View, mapList, flatList, mapOption, mapPair, mapNames, whole, readObject, readShape, openAll, openAny, viewBody, view, Every, nil, one, EveryPair, nilPair, onePair, Perhaps, absent, present, PerhapsEvery, absents, presents, NamesIn, inNone, inDetects, inNamed, ObjectIn, Children, inPlain, inAny, inAll, inArray, inObject, inRef}

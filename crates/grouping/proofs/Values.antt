@@ -15,7 +15,7 @@ use Rattle.error.specs.declared.Detail.the-variants.{Empty, Key}
 use Rattle.layout.specs.Layout.{NONE, nodeKind, nodeA, nodeB, pairKey, pairValue}
 use Rattle.lookup.specs.declared.Found.{Found}
 use Rattle.lookup.specs.declared.Found.the-variants.{At, Nothing}
-use Rattle.lookup.specs.Find.{firstFrom, lastBelow}
+use Rattle.lookup.specs.Find.{firstFrom, lastBelow, found}
 use Rattle.lookup.specs.Lookup.{keyIs, entryKey, entryValue, itemNode, entryHasKey, lastEntry}
 use Rattle.json.specs.declared.shape.Shape as shape
 use Rattle.json.specs.declared.shape.Shape.the-variants as variants
@@ -26,7 +26,7 @@ use Rattle.schema.specs.Shape.{Own, Shape, array, object}
 use Rattle.schema.specs.Look.{slice}
 use Rattle.judge.specs.declared.Verdict.{Verdict}
 use Rattle.judge.specs.declared.Verdict.the-variants.{Fine, Wrong}
-use Rattle.judge.specs.Judge.{enumWay, uniqueWay, found, countVerdict, firstWrong, mismatch, isListed, anyRepeated, enumVerdict, itemsOf, uniqueVerdict, arrayVerdict, keyText, duplicateWrong, hasEarlier, isDuplicate, keysVerdict, objectVerdict, hasKey}
+use Rattle.judge.specs.Judge.{enumWay, uniqueWay, countVerdict, firstWrong, mismatch, isListed, anyRepeated, enumVerdict, itemsOf, uniqueVerdict, arrayVerdict, keyText, duplicateWrong, hasEarlier, isDuplicate, keysVerdict, objectVerdict, hasKey}
 use Rattle.validator.specs.Outcome.{place}
 use Rattle.validator.specs.Visit.{Nodes}
 use Rattle.grouping.specs.Values.{SameValues}

@@ -14,10 +14,8 @@ use Rattle.text.specs.Text.{textCount}
 use Rattle.layout.specs.Layout.{Tables, NONE, nodeWord, nodeKind, nodeA, nodeCount, entryCount, entrySchema, noteCount, schemaCount, schemaWord, schemaKind, schemaNote, numberMinimum, numberMaximum, numberExclusiveMinimum, numberExclusiveMaximum, numberMultiple, stringPattern, arrayUnique, refText, refEager, listFirst, listCount, arrayItems, propertiesFirst, propertiesCount, patternPropertiesFirst, patternPropertiesCount, additionalProperties, propertyNames, basesFirst, basesCount, pairValue}
 use Rattle.lookup.specs.declared.Found.{Found}
 use Rattle.lookup.specs.declared.Found.the-variants.{At}
-use Rattle.lookup.specs.Find.{lastBelow, foundAt}
-use Rattle.lookup.specs.Lookup.{entryIsNamed, resolveOf}
-use Rattle.judge.specs.Judge.{toOption}
-use Rattle.validator.specs.Validate.{findIn}
+use Rattle.lookup.specs.Find.{lastBelow, foundAt, toOption}
+use Rattle.lookup.specs.Lookup.{entryIsNamed, resolveOf, findIn}
 use Rattle.text.proofs.Texts.{past-end}
 use Rattle.grouping.specs.Values.{SameValues}
 use Rattle.records.specs.declared.Counts.{Counts}

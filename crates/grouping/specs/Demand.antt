@@ -5,10 +5,12 @@ use mathlib.Core.Path.{_≡_}
 use lib.ListN.{take}
 use Rattle.text.specs.Text.{sameText}
 use Rattle.error.specs.declared.Mode.{Mode}
+use Rattle.error.specs.Paths.{levels}
 use Rattle.layout.specs.Layout.{Tables, NONE, mostNotes, mostSchemas}
+use Rattle.lookup.specs.Lookup.{findIn}
 use Rattle.schema.specs.Look.{wordsOf, look}
 use Rattle.validator.specs.Outcome.{ended}
-use Rattle.validator.specs.Validate.{levels, findIn, visitOf, Validated}
+use Rattle.validator.specs.Validate.{visitOf, Validated}
 use Rattle.compilation.specs.Compile.{Result, Room, compileAt}
 use Rattle.grouping.specs.Tree.{whole, view}
 use Rattle.grouping.specs.Grown.{Tree, trees}

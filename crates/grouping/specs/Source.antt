@@ -8,7 +8,6 @@ use Rattle.text.specs.Text.{sameText}
 use Rattle.layout.specs.Layout.{Tables}
 use Rattle.schema.specs.Shape.{Note, Pair, Own, Names, nameless, detects, named, Object, Shape, plain, anyOf, allOf, array, object, ref}
 use Rattle.schema.specs.Look.{Words, wordsOf, look, bases}
-use Rattle.validator.specs.Validate.{levels, findIn}
 use Rattle.grouping.specs.Tree.{View, mapList, mapOption, mapPair, whole, viewBody}
 use Rattle.grouping.specs.Grown.{Facts, Tree, trees}
 use Rattle.grouping.specs.Meant.{selfView, meantOf}

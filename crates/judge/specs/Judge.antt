@@ -3,7 +3,6 @@
 use Prim.Native.Nat.{ℕ, zero, suc, _+_}
 use mathlib.Core.Bool.{Bool, true, false, not}
 use mathlib.Core.List.{List, [], _∷_}
-use mathlib.Core.Option.{Option, some, none}
 use lib.ListN.{length, getD}
 use lib.Dec.{eqb, ltb, leb}
 use lib.Ieee.{Float, nan, binary64, ofBits}
@@ -23,7 +22,7 @@ use Rattle.error.specs.declared.Detail.the-variants as detail
 use Rattle.layout.specs.Layout.{Tables, NONE, nodeKind, nodeA, nodeB, propertiesFirst, propertiesCount, requiredFirst, requiredCount, objectMinimum, objectMaximum}
 use Rattle.lookup.specs.declared.Found.{Found}
 use Rattle.lookup.specs.declared.Found.the-variants.{At, Nothing}
-use Rattle.lookup.specs.Find.{firstFrom}
+use Rattle.lookup.specs.Find.{firstFrom, found}
 use Rattle.lookup.specs.Lookup.{entryKey, entryHasKey, lastEntry, propertyOf}
 use Rattle.json.specs.Value.{equalNodesOf}
 use Rattle.schema.specs.Shape.{Own}
@@ -106,14 +105,6 @@ answerWrong n subject pattern a =
 abbrev pub patternWrong : ℕ → ℕ → ℕ → Found → Verdict
 patternWrong n subject pattern Nothing = Unanswered
 patternWrong n subject pattern (At a) = answerWrong n subject pattern a
-
-abbrev pub found : Found → Bool
-found (At i) = true
-found Nothing = false
-
-abbrev pub toOption : Found → Option ℕ
-toOption (At i) = some i
-toOption Nothing = none
 
 -- ---- nodes
 -- 1: expected name, node's name, by the numbers that the name table is read by
@@ -239,8 +230,8 @@ unfoldable pub sizeVerdict : List ℕ → ℕ → ℕ → ℕ → Verdict
 sizeVerdict nodes least most n = countVerdict 11 n least most (nodeB nodes n)
 
 -- object: what comes before its entries, in order
-unfoldable pub objectFirst : List ℕ → List ℕ → List ℕ → List ℕ → List ℕ → ℕ → ℕ → Verdict
-objectFirst pool texts nodes schemas links s n =
+unfoldable pub beforeEntries : List ℕ → List ℕ → List ℕ → List ℕ → List ℕ → ℕ → ℕ → Verdict
+beforeEntries pool texts nodes schemas links s n =
     firstWrong (objectVerdict pool texts nodes links n)
     (firstWrong
     (requiredVerdict pool texts nodes links (propertiesFirst schemas s) (propertiesCount schemas s) n

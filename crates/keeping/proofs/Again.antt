@@ -6,6 +6,7 @@ use native.Mathlib.Omega.{arith}
 use lib.ListN.{length, replicate, length-append}
 use borrow.Author.Tests.{le-leb}
 use Rattle.text.specs.Choice.{both-holds}
+use Rattle.text.specs.Text.{padded}
 use Rattle.error.specs.declared.Used.{Used}
 use Rattle.error.specs.Answers.{withUsed}
 use Rattle.layout.specs.Layout.{Tables, mostNotes, mostSchemas, mostLinks, noteCount, schemaCount}
@@ -14,7 +15,7 @@ use Rattle.tables.specs.Check.{usedSize, sizesFault, recordsFault, lentFault, t
 use Rattle.tables.proofs.Facts.{well-formed}
 use Rattle.tables.specs.Facts.{Sized}
 use Rattle.schema.specs.Look.{Words}
-use Rattle.compilation.specs.Entry.{Compiled, usedTables, usedFault, keptIn, compileOf}
+use Rattle.compilation.specs.Entry.{Compiled, usedTables, usedFault, compileOf}
 use Rattle.grouping.specs.Values.{grown}
 use Rattle.grouping.proofs.Used.{size-more}
 use Rattle.keeping.specs.Left.{Compiles, lentAfter, leftBy}
@@ -37,7 +38,7 @@ module _ (T : Tables) (u : Used) (s : ℕ) (h : Compiles T u s) where
   passed = compile-keeps-the-check T u s h .sound
 
   counted : Within T (compileOf T u s)
-  unfolding withUsed keptIn noteCount schemaCount
+  unfolding withUsed padded noteCount schemaCount
   counted =
       let d = done T u s h in
       let w : Words = d .words in

@@ -1,29 +1,25 @@
 -- A call of `compile` that answers 0: what it started from, and what it leaves. Assumes nothing.
 use Prim.Native.Nat.{ℕ, _*_, _/_, _≤_, _<_}
-use mathlib.Core.Path.{_≡_, refl, sym, ap, _∙_}
+use mathlib.Core.Path.{_≡_, refl, sym}
 use mathlib.Core.Bool.{Bool, true, false}
-use mathlib.Core.Option.{Option}
 use native.Mathlib.Omega.{arith}
 use lib.ListN.{length}
 use lib.Seq.{length-take-le, take-at}
 use lib.Dec.{leb}
 use borrow.Author.Tests.{leb-false}
 use Rattle.text.specs.Choice.{pick}
-use Rattle.text.specs.Text.{sameText}
+use Rattle.text.specs.Text.{sameText, padded}
 use Rattle.error.specs.declared.Used.{Used}
 use Rattle.error.specs.Answers.{plainAnswer, foundRecord, withUsed, answerOf}
+use Rattle.error.specs.Paths.{levels}
 use Rattle.layout.specs.Layout.{Tables, mostNotes, mostSchemas, mostLinks, noteCount, schemaCount}
-use Rattle.lookup.specs.declared.Found.{Found}
-use Rattle.lookup.specs.declared.Found.the-variants.{At, Nothing}
-use Rattle.lookup.specs.Lookup.{resolveOf}
-use Rattle.judge.specs.Judge.{toOption}
-use Rattle.validator.specs.Validate.{findIn}
+use Rattle.lookup.specs.Lookup.{findIn}
 use Rattle.tables.specs.declared.check.Fault.{Fault}
 use Rattle.tables.specs.declared.check.Fault.the-variants.{Sound, Bad}
 use Rattle.tables.specs.Check.{tablesFault}
 use Rattle.schema.specs.Look.{Words, wordsOf}
-use Rattle.compilation.specs.Compile.{Result, ok, refuse, compileAt}
-use Rattle.compilation.specs.Entry.{Compiled, usedTables, usedFault, atMost, roomOf, targetOf, compiledOf, keptIn, leave, countsOf, finished, untouched, orFault, compileOf}
+use Rattle.compilation.specs.Compile.{Result, ok, refuse}
+use Rattle.compilation.specs.Entry.{Compiled, usedTables, usedFault, atMost, roomOf, compiledOf, leave, countsOf, finished, untouched, orFault, compileOf}
 use Rattle.compilation.specs.State.{Source, Out}
 use Rattle.compilation.proofs.Same.{Same, made, stopped}
 use Rattle.compilation.proofs.Used.{used-lent, used-fit, sizes-sound, used-tables-sound}
@@ -68,7 +64,7 @@ module _ (T : Tables) (u : Used) (s : ℕ) where
 
   says : Says (compiledOf T u s)
   unfolding compiledOf
-  says = compile-says (roomOf T) (sameText (T .pool) (T .texts)) (λ name. targetOf (resolveOf (T .pool) (T .texts) (T .registry) name)) 64 s (wordsOf (usedTables T u))
+  says = compile-says (roomOf T) (sameText (T .pool) (T .texts)) (findIn T) levels s (wordsOf (usedTables T u))
 
   pub done : (compileOf T u s) .answer .number ≡ 0 → Done
   unfolding compileOf
@@ -88,7 +84,7 @@ module _ (T : Tables) (u : Used) (s : ℕ) where
     whole = whole-grown (compiled-same T u (d .sound) s (d .below)) (d .place) (d .words) (d .is)
 
     pub left-is : leftBy T (compileOf T u s) ≡ grown (usedTables T u) (d .words)
-    unfolding leftBy usedTables withUsed keptIn
+    unfolding leftBy usedTables withUsed padded
     left-is =
         rw (d .gives)
         (rw (take-at (d .words .notes) _ (noteCount (d .words .notes) * 9) (sym (whole .notes)), take-at (d .words .schemas) _ (schemaCount (d .words .schemas) * 16) (sym (whole .schemas)), take-at (d .words .links) _ (length (d .words .links)) refl))
@@ -97,15 +93,9 @@ module _ (T : Tables) (u : Used) (s : ℕ) where
     unfolding withUsed answerOf
     place-is = rw (d .gives)
 
-    target-same : (f : Found) → toOption f ≡ targetOf f
-    target-same (At n) = refl
-    target-same Nothing = refl
-
     pub compiling-is : compiling (usedTables T u) (roomOf T) s ≡ ok (d .place) (d .words)
     unfolding compiling compiledOf usedTables findIn
-    compiling-is =
-        ap (λ (f : ℕ → Option ℕ). compileAt (roomOf T) (sameText (T .pool) (T .texts)) f 64 s (wordsOf (usedTables T u)))
-        (λ i name. target-same (resolveOf (T .pool) (T .texts) (T .registry) name) i) ∙ d .is
+    compiling-is = d .is
 
 at-most : (limit lent : ℕ) → atMost limit lent ≤ limit
 at-most limit lent = at (leb limit lent) refl

@@ -5,8 +5,8 @@ use mathlib.Core.Path.{sym, subst}
 use mathlib.Core.List.{List}
 use Rattle.error.specs.declared.Used.{Used}
 use Rattle.layout.specs.Layout.{Tables}
+use Rattle.lookup.specs.Lookup.{findIn}
 use Rattle.schema.specs.Look.{Words, wordsOf}
-use Rattle.validator.specs.Validate.{findIn}
 use Rattle.compilation.specs.Entry.{usedTables, roomOf, compileOf}
 use Rattle.grouping.specs.Values.{SameValues, withSchemas, grown}
 use Rattle.grouping.specs.Regrouped.{Grouped, Regrouped}

@@ -11,14 +11,15 @@ use borrow.Author.Tests.{eqb-false}
 use Rattle.text.specs.Choice.{pick}
 use Rattle.text.specs.Text.{textCount, sameText}
 use Rattle.error.specs.declared.Used.{Used}
+use Rattle.error.specs.Paths.{levels}
 use Rattle.layout.specs.Layout.{Tables, NONE, schemaCount, schemaWord, schemaKind, schemaNote, arrayItems, additionalProperties, propertyNames}
+use Rattle.lookup.specs.Lookup.{findIn}
 use Rattle.tables.specs.declared.check.Fault.the-variants.{Sound}
 use Rattle.tables.specs.Check.{tablesFault}
 use Rattle.tables.proofs.Facts.{Optional, present as below-limit, SchemaFacts, schema-facts}
 use Rattle.schema.specs.Shape.{Pair, Object, Shape, plain, anyOf, allOf, array, object, ref}
 use Rattle.schema.specs.Look.{Words, wordsOf, look, bases}
 use Rattle.merge.specs.Merge.{Gathered, start, gather, noteOf, derive}
-use Rattle.validator.specs.Validate.{findIn, levels}
 use Rattle.compilation.specs.Compile.{Result, ok, then, Room, objectsOf, looks, addList, addArray, addObject, each, eachPair, optionally, mergeFrom, eagerly, compileShape, compileAt}
 use Rattle.compilation.specs.Entry.{usedTables, roomOf, compileOf}
 use Rattle.grouping.specs.Tree.{Every, nil, one, EveryPair, nilPair, onePair, Perhaps, absent, present, PerhapsEvery, presents}

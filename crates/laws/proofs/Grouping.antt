@@ -7,8 +7,9 @@ use mathlib.Core.List.{List}
 use Rattle.error.specs.declared.Mode.{Mode}
 use Rattle.error.specs.declared.Used.{Used}
 use Rattle.layout.specs.Layout.{Tables, nodeCount}
+use Rattle.lookup.specs.Lookup.{findIn}
 use Rattle.schema.specs.Look.{Words, wordsOf}
-use Rattle.validator.specs.Validate.{instanceWords, schemaStepWords, findIn}
+use Rattle.validator.specs.Validate.{instanceWords, schemaStepWords}
 use Rattle.compilation.specs.Entry.{usedTables, compileOf}
 use Rattle.grouping.specs.Values.{SameValues, withSchemas}
 use Rattle.grouping.specs.Regrouped.{Grouped, Regrouped}

@@ -8,13 +8,8 @@ use mathlib.Core.Bool.{Bool, true, false, cond}
 use Prim.Native.Nat.{ℕ, zero, suc, _+_, _-_, _<_, _≤_}
 use native.Mathlib.Numerals.{add-one}
 use native.Mathlib.Omega.{arith}
+use Rattle.text.proofs.Count.{one-more, none-left}
 use Rattle.layout.specs.Walk.{every, first}
-
-one-more : (i e : ℕ) → i < e → e - i ≡ suc (e - (i + 1))
-one-more i e h = omega arith
-
-none-left : (i e : ℕ) → i ≤ e → e ≤ i → e - i ≡ 0
-none-left i e h l = omega arith
 
 module _ (f : ℕ → Bool) (i e : ℕ) where
   module _ {x : Bool} (inv : every f i e ≡ x) where
@@ -28,7 +23,7 @@ module _ (f : ℕ → Bool) (i e : ℕ) where
 
     pub every-end : i ≤ e → e ≤ i → true ≡ x
     unfolding every
-    every-end h l = rw (none-left i e h l) at inv
+    every-end h l = rw (none-left i e l) at inv
 
   module _ {x : ℕ} (inv : first f i e ≡ x) where
     pub first-more : i < e → f i ≡ true → first f (i + 1) e ≡ x
@@ -41,4 +36,4 @@ module _ (f : ℕ → Bool) (i e : ℕ) where
 
     pub first-end : i ≤ e → e ≤ i → e ≡ x
     unfolding first
-    first-end h l = omega (arith, rw (none-left i e h l) at inv)
+    first-end h l = omega (arith, rw (none-left i e l) at inv)

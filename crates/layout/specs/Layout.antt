@@ -5,6 +5,7 @@ use mathlib.Core.List.{List}
 use lib.ListN.{length, getD}
 use lib.Dec.{ltb}
 use Rattle.text.specs.Choice.{pick}
+pub use Rattle.text.specs.Text.{NONE}
 
 -- what a call is lent: eight tables, and the pool of the texts' bytes
 pub record Tables : Type 0 where
@@ -31,10 +32,6 @@ tables pool texts nodes notes schemas registry patterns links numbers =
       links = links;
       numbers = numbers;
     }
-
--- an optional word that is absent
-abbrev pub NONE : ℕ
-NONE = 4294967295
 
 -- words per record; a text's are `text`'s
 abbrev pub nodeWords : ℕ

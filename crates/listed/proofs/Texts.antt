@@ -36,7 +36,8 @@ module _ (way : Equality) (pool texts nodes links numbers : List ℕ) (n : ℕ) 
   unfolding equalNodesOf valueOf equalJson
   string-by x = rw (value-string pool texts nodes links numbers (nodeCount nodes) n is)
 
-  string-is : (x : ℕ) → keyIs pool texts nodes (nodeA nodes n) x ≡ equalNodesOf way pool texts nodes links numbers n x
+  -- a listed node is equal to a string where it is a string with its bytes
+  pub string-is : (x : ℕ) → keyIs pool texts nodes (nodeA nodes n) x ≡ equalNodesOf way pool texts nodes links numbers n x
   unfolding keyIs sameText valueOf
   string-is x =
       ⊎-elim

@@ -3,23 +3,20 @@
 --     -more     the test fails there: the invariant one place further
 --     -stop     the test holds there: the answer
 --     -end      no place is left: the answer
-use mathlib.Core.Path.{_≡_, ap}
+use mathlib.Core.Path.{_≡_, refl, ap}
 use mathlib.Core.Bool.{Bool, true, false}
-use Prim.Native.Nat.{ℕ, suc, _+_, _-_, _<_, _≤_}
+use mathlib.Core.Logic.{⊎-elim}
+use Prim.Native.Nat.{ℕ, zero, suc, _+_, _-_, _<_, _≤_}
 use native.Mathlib.Numerals.{add-one}
 use native.Mathlib.Omega.{arith}
+use Rattle.text.specs.Choice.{true-or-false, clash}
+use Rattle.text.proofs.Count.{one-more, none-left}
 use Rattle.lookup.specs.declared.Found.{Found}
 use Rattle.lookup.specs.declared.Found.the-variants.{At, Nothing}
-use Rattle.lookup.specs.Find.{lastBelow, firstFrom}
+use Rattle.lookup.specs.Find.{lastBelow, firstFrom, found}
 
 last-place : (k : ℕ) → 0 < k → k ≡ suc (k - 1)
 last-place k h = omega arith
-
-one-more : (i e : ℕ) → i < e → e - i ≡ suc (e - (i + 1))
-one-more i e h = omega arith
-
-none-left : (i e : ℕ) → e ≤ i → e - i ≡ 0
-none-left i e h = omega arith
 
 no-place : (k : ℕ) → k ≤ 0 → k ≡ 0
 no-place k h = omega arith
@@ -54,3 +51,19 @@ module _ (f : ℕ → Bool) {x : Found} where
     pub first-end : e ≤ i → Nothing ≡ x
     unfolding firstFrom
     first-end h = rw (none-left i e h) at inv
+
+-- ---- what a search says of its test
+-- where something is found, the test holds
+pub found-where : (f : ℕ → Bool) (i n : ℕ) → found (firstFrom f i n) ≡ true → (j : ℕ) × (j < i + n) × (f j ≡ true)
+unfolding firstFrom
+found-where f i zero h = clash h refl
+found-where f i (suc n) h =
+    ⊎-elim (λ t. (i, omega arith, t))
+    (λ t. let later = found-where f (suc i) n (rw t at h) in (later .0, omega (arith, later .1), later .2))
+    (true-or-false (f i))
+
+-- where it fails everywhere, nothing is found
+pub found-nowhere : (f : ℕ → Bool) (i n : ℕ) → ((j : ℕ) → j < i + n → f j ≡ false) → firstFrom f i n ≡ Nothing
+unfolding firstFrom
+found-nowhere f i zero h = refl
+found-nowhere f i (suc n) h = rw (h i (omega arith)) (found-nowhere f (suc i) n (λ j l. h j (omega arith)))

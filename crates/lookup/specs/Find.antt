@@ -1,6 +1,7 @@
 -- The last and the first of a run of places where a test holds. Assumes nothing.
 use Prim.Native.Nat.{ℕ, zero, suc}
-use mathlib.Core.Bool.{Bool}
+use mathlib.Core.Bool.{Bool, true, false}
+use mathlib.Core.Option.{Option, some, none}
 use Rattle.text.specs.Choice.{pick}
 use Rattle.lookup.specs.declared.Found.{Found}
 use Rattle.lookup.specs.declared.Found.the-variants.{At, Nothing}
@@ -23,3 +24,13 @@ firstFrom f i (suc n) =
 abbrev pub foundAt : (ℕ → ℕ) → Found → Found
 foundAt value (At i) = At (value i)
 foundAt value Nothing = Nothing
+
+-- whether it was found
+abbrev pub found : Found → Bool
+found (At i) = true
+found Nothing = false
+
+-- what was found, or nothing
+abbrev pub toOption : Found → Option ℕ
+toOption (At i) = some i
+toOption Nothing = none

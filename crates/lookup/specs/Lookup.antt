@@ -2,13 +2,14 @@
 use Prim.Native.Nat.{ℕ, _+_}
 use mathlib.Core.List.{List}
 use mathlib.Core.Bool.{Bool, not}
+use mathlib.Core.Option.{Option}
 use lib.ListN.{getD}
 use lib.Dec.{eqb, ltb}
 use Rattle.text.specs.Choice.{both}
 use Rattle.text.specs.Text.{textLength, sameText}
-use Rattle.layout.specs.Layout.{nodeKind, nodeA, nodeB, pairKey, pairValue, entryText, entrySchema, entryCount, patternText, subjectText, patternAnswer, patternCount}
+use Rattle.layout.specs.Layout.{Tables, nodeKind, nodeA, nodeB, pairKey, pairValue, entryText, entrySchema, entryCount, patternText, subjectText, patternAnswer, patternCount}
 use Rattle.lookup.specs.declared.Found.{Found}
-use Rattle.lookup.specs.Find.{lastBelow, firstFrom, foundAt}
+use Rattle.lookup.specs.Find.{lastBelow, firstFrom, foundAt, toOption}
 
 -- by its record alone, text t does not have the n bytes, of which there is one at least
 unfoldable pub otherLength : List ℕ → ℕ → ℕ → Bool
@@ -57,6 +58,10 @@ entryIsNamed pool texts registry text i = sameText pool texts (entryText registr
 unfoldable pub resolveOf : List ℕ → List ℕ → List ℕ → ℕ → Found
 resolveOf pool texts registry text =
     foundAt (entrySchema registry) (lastBelow (entryIsNamed pool texts registry text) (entryCount registry))
+
+-- what a ref leads to in these tables, in a visit and in compiling
+unfoldable pub findIn : Tables → ℕ → Option ℕ
+findIn T text = toOption (resolveOf (T .pool) (T .texts) (T .registry) text)
 
 -- answer entry i is for that pattern and that subject
 unfoldable pub answersPattern : List ℕ → List ℕ → List ℕ → ℕ → ℕ → ℕ → Bool

@@ -8,6 +8,7 @@ use native.Mathlib.Nat.{eq-or-lt-of-le, le-of-suc-le-suc, not-suc-le-zero}
 use native.Mathlib.Omega.{arith}
 use lib.ListN.{getD, length, replicate, take, List·getD-eq-default}
 use lib.Seq.{take-at}
+use Rattle.text.specs.Text.{padded}
 use Rattle.names.specs.declared.Name.{Name}
 use Rattle.names.specs.Names.{nodeNames, schemaNames, yamlTypeName, typeName, tableNames, tableName, named}
 
@@ -42,7 +43,7 @@ rowAt k = record {
 
 -- the table's rule: what is read at row k is the name in row k; antt computes all 21 rows
 pub row-at : (k : ℕ) → k < 21 → rowAt k ≡ named (tableName k)
-unfolding rowAt bytes lengths named tableName tableNames nodeNames schemaNames flatMap
+unfolding rowAt bytes lengths named padded tableName tableNames nodeNames schemaNames flatMap
 row-at = agree rowAt (λ k. named (tableName k)) 21 refl
 
 -- the first eight rows are the node names, in the order of their kinds
@@ -77,7 +78,7 @@ no-schema kind h = List·getD-eq-default schemaNames [] h
 
 -- what is handed out holds the name: its first bytes, as many as count
 pub read-back : (name : List ℕ) → take (named name .len) (named name .bytes) ≡ name
-unfolding named
+unfolding named padded
 read-back name = take-at name (replicate (8 - length name) 0) (length name) refl
 
 -- a number from n on that is not n is past it

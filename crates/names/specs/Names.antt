@@ -1,7 +1,8 @@
 -- The type names of nodes and of schemas, in ASCII. Assumes nothing.
-use Prim.Native.Nat.{ℕ, _-_}
+use Prim.Native.Nat.{ℕ}
 use mathlib.Core.List.{List, [], _∷_, _++_}
-use lib.ListN.{getD, length, replicate, take}
+use lib.ListN.{getD, length, take}
+use Rattle.text.specs.Text.{padded}
 use Rattle.names.specs.declared.Name.{Name}
 
 -- A visit: the name that each kind of node answers under, kinds 0 to 8; a bad value is "null" again.
@@ -53,4 +54,4 @@ tableName k = getD tableNames k []
 
 -- A name as it is handed out: its bytes, with 0 behind them to eight, and its length.
 unfoldable pub named : List ℕ → Name
-named name = record { bytes = name ++ replicate (8 - length name) 0; len = length name }
+named name = record { bytes = padded name 8; len = length name }

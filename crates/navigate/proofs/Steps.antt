@@ -9,6 +9,7 @@ use lib.Seq.{drop-cons}
 use lib.Dec.{eqb, ltb}
 use borrow.Author.Tests.{eq-eqb, ne-eqb, lt-ltb, le-ltb, ltb-true}
 use Rattle.text.specs.Choice.{both-right}
+use Rattle.text.proofs.Count.{one-more, none-left}
 use Rattle.layout.specs.Layout.{NONE}
 use Rattle.error.specs.Paths.{Step, keyStep, itemStep, stepOf, readPath}
 use Rattle.tables.specs.declared.check.Fault.the-variants.{Sound, Bad}
@@ -25,10 +26,7 @@ module _ (path : List ℕ) where
 
   pub steps-end : (i : ℕ) → stepCount path ≤ i → stepsFrom path i ≡ []
   unfolding stepsFrom readPath
-  steps-end i h = rw (none-left h)
-    where
-      none-left : stepCount path ≤ i → stepCount path - i ≡ 0
-      none-left l = omega arith
+  steps-end i h = rw (none-left i (stepCount path) h)
 
   two-words : (i : ℕ) → i < stepCount path → drop (i * 2) path ≡ pathTag path i ∷ (pathWord path i ∷ drop ((i + 1) * 2) path)
   unfolding stepCount
@@ -42,10 +40,7 @@ module _ (path : List ℕ) where
 
   pub steps-more : (i : ℕ) → i < stepCount path → stepsFrom path i ≡ stepOf (pathTag path i) (pathWord path i) ∷ stepsFrom path (i + 1)
   unfolding stepsFrom readPath
-  steps-more i h = rw (two-words i h, one-more h)
-    where
-      one-more : i < stepCount path → stepCount path - i ≡ suc (stepCount path - (i + 1))
-      one-more l = omega arith
+  steps-more i h = rw (two-words i h, one-more i (stepCount path) h)
 
   -- a size that passes: step numbers are words
   pub size-few : pathSize path ≡ true → stepCount path < NONE

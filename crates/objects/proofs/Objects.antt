@@ -14,7 +14,7 @@ use Rattle.schema.specs.Look.{slice}
 use Rattle.schema.proofs.Slices.{slice-begin, slice-more, slice-end}
 use Rattle.judge.specs.declared.Verdict.{Verdict}
 use Rattle.judge.specs.declared.Verdict.the-variants.{Fine, Wrong}
-use Rattle.judge.specs.Judge.{isFine, firstWrong, mismatch, hasEarlier, isDuplicate, duplicateWrong, keysVerdict, objectVerdict, hasKey, numberOr, missing, requiredVerdict, sizeVerdict, objectFirst}
+use Rattle.judge.specs.Judge.{isFine, firstWrong, mismatch, hasEarlier, isDuplicate, duplicateWrong, keysVerdict, objectVerdict, hasKey, numberOr, missing, requiredVerdict, sizeVerdict, beforeEntries}
 use Rattle.judge.proofs.Verdicts.{first-fine, first-wrong}
 
 -- 13, from what the code looked up
@@ -77,18 +77,18 @@ module _ (pool texts nodes schemas links : List ℕ) (s n : ℕ) where
   size = sizeVerdict nodes (objectMinimum schemas s) (objectMaximum schemas s) n
 
   module _ {v : Verdict} (ve : v ≡ objectVerdict pool texts nodes links n) where
-    pub object-refused : isFine v ≡ false → v ≡ objectFirst pool texts nodes schemas links s n
-    unfolding objectFirst required size
+    pub object-refused : isFine v ≡ false → v ≡ beforeEntries pool texts nodes schemas links s n
+    unfolding beforeEntries required size
     object-refused h = rw (← ve) (sym (first-wrong v (firstWrong required size) h))
 
     module _ (h : isFine v ≡ true) {w : Verdict} (we : w ≡ requiredVerdict pool texts nodes links (propertiesFirst schemas s) (propertiesCount schemas s) n (slice links (requiredFirst schemas s) (requiredCount schemas s))) where
-      object-fine : objectFirst pool texts nodes schemas links s n ≡ firstWrong w size
-      unfolding objectFirst size
+      object-fine : beforeEntries pool texts nodes schemas links s n ≡ firstWrong w size
+      unfolding beforeEntries size
       object-fine = rw (← ve, ← we) (first-fine v (firstWrong w size) h)
 
-      pub object-missing : isFine w ≡ false → w ≡ objectFirst pool texts nodes schemas links s n
+      pub object-missing : isFine w ≡ false → w ≡ beforeEntries pool texts nodes schemas links s n
       object-missing g = sym (object-fine ∙ first-wrong w size g)
 
-      pub object-sized : {r : Verdict} → isFine w ≡ true → r ≡ sizeVerdict nodes (objectMinimum schemas s) (objectMaximum schemas s) n → r ≡ objectFirst pool texts nodes schemas links s n
+      pub object-sized : {r : Verdict} → isFine w ≡ true → r ≡ sizeVerdict nodes (objectMinimum schemas s) (objectMaximum schemas s) n → r ≡ beforeEntries pool texts nodes schemas links s n
       unfolding size
       object-sized g q = q ∙ sym (object-fine ∙ first-fine w size g)

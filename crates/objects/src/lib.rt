@@ -20,7 +20,7 @@ ghost use Rattle.judge.specs.Judge.{
   missing,
   requiredVerdict,
   sizeVerdict,
-  objectFirst,
+  beforeEntries,
 };
 use error::Detail;
 use judge::Verdict;
@@ -203,7 +203,7 @@ pub fn check_object(
     n: u32,
     s: u32,
 ) -> Verdict
-    ensures { λ r. ⌜ r ≡ objectFirst (now (pool .entry)) (now (texts .entry)) (now (nodes .entry)) (now (schemas .entry)) (now (links .entry)) s n ⌝ }
+    ensures { λ r. ⌜ r ≡ beforeEntries (now (pool .entry)) (now (texts .entry)) (now (nodes .entry)) (now (schemas .entry)) (now (links .entry)) s n ⌝ }
 {
     let keys = check_type(pool, texts, nodes, links, n);
     if judge::is_fine(keys) {

@@ -8,14 +8,9 @@ use mathlib.Core.List.{List, [], _∷_}
 use Prim.Native.Nat.{ℕ, zero, suc, _+_, _-_, _<_, _≤_}
 use native.Mathlib.Omega.{arith}
 use lib.ListN.{getD}
+use Rattle.text.proofs.Count.{one-more, none-left}
 use Rattle.layout.specs.Layout.{schemaWord}
 use Rattle.schema.specs.Look.{slice, ownWords}
-
-one-more : (i n : ℕ) → i < n → n - i ≡ suc (n - (i + 1))
-one-more i n h = omega arith
-
-none-left : (i n : ℕ) → n ≤ i → n - i ≡ 0
-none-left i n h = omega arith
 
 next-place : (at i : ℕ) → at + i + 1 ≡ at + (i + 1)
 next-place at i = omega arith

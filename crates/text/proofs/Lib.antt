@@ -1,3 +1,4 @@
+pub mod Count
 pub mod Bytes
 pub mod Texts
 pub mod Octet

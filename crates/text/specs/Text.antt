@@ -1,8 +1,9 @@
--- A text: a part of the pool, by its record in the table of texts. Assumes nothing.
-use Prim.Native.Nat.{ℕ, _+_, _*_, _/_}
-use mathlib.Core.List.{List, [], _∷_}
+-- A text: a part of the pool, by its record in the table of texts. And what every table and buffer shares: an absent word, and 0 behind
+-- what is held. Assumes nothing.
+use Prim.Native.Nat.{ℕ, _+_, _*_, _/_, _-_}
+use mathlib.Core.List.{List, [], _∷_, _++_}
 use mathlib.Core.Bool.{Bool, true, false}
-use lib.ListN.{length, getD, take, drop}
+use lib.ListN.{length, getD, take, drop, replicate}
 use lib.Dec.{ltb, leb, eqb}
 use Rattle.text.specs.Choice.{both, pick}
 
@@ -52,3 +53,12 @@ sameBytes (x ∷ xs) (y ∷ ys) = both (eqb x y) (sameBytes xs ys)
 -- texts are compared by bytes
 unfoldable pub sameText : List ℕ → List ℕ → ℕ → ℕ → Bool
 sameText pool texts m n = sameBytes (textOf pool texts m) (textOf pool texts n)
+
+-- ---- tables and buffers
+-- an optional word that is absent
+abbrev pub NONE : ℕ
+NONE = 4294967295
+
+-- n words that hold these words, and 0 behind them
+unfoldable pub padded : List ℕ → ℕ → List ℕ
+padded words n = words ++ replicate (n - length words) 0

@@ -14,7 +14,7 @@ use Rattle.lookup.specs.declared.Found.the-variants.{At, Nothing}
 use Rattle.lookup.specs.Lookup.{entryKey, entryValue, propertyPlace, propertyOf, answerOfPattern}
 use Rattle.judge.specs.declared.Verdict.{Verdict}
 use Rattle.judge.specs.declared.Verdict.the-variants.{Fine}
-use Rattle.judge.specs.Judge.{isFine, keyText, keysVerdict, objectFirst, numberVerdict, stringVerdict, enumVerdict}
+use Rattle.judge.specs.Judge.{isFine, keyText, keysVerdict, beforeEntries, numberVerdict, stringVerdict, enumVerdict}
 use Rattle.schema.specs.Look.{slice, ownWords}
 use Rattle.glance.specs.Glance.{Passes, PassesBut}
 use Rattle.glance.proofs.Says.{is-fine}
@@ -143,7 +143,7 @@ module _ (T : Tables) (mode : Mode) (below n s : ℕ) where
       unfolding AcceptsAll
       gone-judged v e q t = (sym e ∙ is-fine v (sym q ∙ t), accepted-all)
 
-  pub object-at-once : (r : Bool) {b : Bool} → PassesBut b (keysVerdict (T .pool) (T .texts) (T .nodes) (T .links) n) (objectFirst (T .pool) (T .texts) (T .nodes) (T .schemas) (T .links) s n) → b ≡ true → AcceptsAll r (keysVerdict (T .pool) (T .texts) (T .nodes) (T .links) n) (entriesIn T mode below n s) → Accepts r (objectWhole T mode below n s)
+  pub object-at-once : (r : Bool) {b : Bool} → PassesBut b (keysVerdict (T .pool) (T .texts) (T .nodes) (T .links) n) (beforeEntries (T .pool) (T .texts) (T .nodes) (T .schemas) (T .links) s n) → b ≡ true → AcceptsAll r (keysVerdict (T .pool) (T .texts) (T .nodes) (T .links) n) (entriesIn T mode below n s) → Accepts r (objectWhole T mode below n s)
   unfolding Accepts AcceptsAll PassesBut entriesIn
   object-at-once r p g a t = object-entries T mode below n s _ refl (nodeB (T .nodes) n) (p g (a t .0)) refl ∙ a t .1
 

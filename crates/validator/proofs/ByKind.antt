@@ -20,12 +20,12 @@ use Rattle.error.specs.Paths.{keyStep, itemStep, stepOf}
 use Rattle.layout.specs.Layout.{Tables, nodeKind, nodeA, nodeB, schemaKind, schemaWord, listFirst, listCount, arrayItems, refText, propertiesFirst, propertiesCount, requiredFirst, requiredCount, objectClosed, additionalProperties, pairKey, pairValue}
 use Rattle.lookup.specs.declared.Found.{Found}
 use Rattle.lookup.specs.declared.Found.the-variants.{At, Nothing}
-use Rattle.lookup.specs.Find.{firstFrom, foundAt}
-use Rattle.lookup.specs.Lookup.{entryKey, entryValue, pairHasKey, propertyOf, resolveOf, answerOfPattern}
+use Rattle.lookup.specs.Find.{firstFrom, foundAt, toOption}
+use Rattle.lookup.specs.Lookup.{entryKey, entryValue, pairHasKey, propertyOf, resolveOf, answerOfPattern, findIn}
 use Rattle.judge.specs.declared.Verdict.{Verdict}
 use Rattle.judge.specs.declared.Verdict.the-variants.{Fine, Wrong, BadPattern, Unanswered}
 use Rattle.judge.proofs.Verdict.{the-type as verdict-type}
-use Rattle.judge.specs.Judge.{firstWrong, toOption, booleanVerdict, nullVerdict, numberVerdict, stringVerdict, enumVerdict, arrayVerdict, itemsOf, hasKey, requiredVerdict, missing, objectFirst, judgeOf, numberOr as foundOr}
+use Rattle.judge.specs.Judge.{firstWrong, booleanVerdict, nullVerdict, numberVerdict, stringVerdict, enumVerdict, arrayVerdict, itemsOf, hasKey, requiredVerdict, missing, beforeEntries, judgeOf, numberOr as foundOr}
 use Rattle.schema.specs.Shape.{Note, Object, Shape, plain, anyOf, allOf, array, object, ref}
 use Rattle.schema.specs.Look.{wordsOf, look, raw, detecting, sortShape, ownOf, arrayOf, objectOf, slice, pairsFrom, ownWords, optional}
 use Rattle.validator.specs.declared.walk.Choice.{Choice}
@@ -33,7 +33,7 @@ use Rattle.validator.specs.declared.walk.Choice.the-variants.{Part, Clos
 use Rattle.validator.specs.Outcome.{Outcome, accepted, refused, invalid, ended, made, under, place, andThen, verdict}
 use Rattle.validator.specs.Visit.{Nodes, findPair, anyOver, allOver, itemsOver, entriesOver, requiredOver, objectAt, arrayAt, propertyAt, extraAt, numberOr, visitBody, visitAt}
 use Rattle.validator.specs.Nodes.{entryOf, entriesFrom}
-use Rattle.validator.specs.Validate.{findIn, visitOf}
+use Rattle.validator.specs.Validate.{visitOf}
 use Rattle.validator.specs.Met.{told, choiceOf, chosenIn, nodesIn, noteIn, objectIn, anyIn, allIn, arrayIn, entryIn, objectWhole, refIn, partIn, within, innerIn}
 use Rattle.validator.proofs.Buffers.{is-accepted, and-stop, and-go, and-accepted, verdict-stop}
 use Rattle.validator.proofs.Loops.{any-begin, all-begin, items-begin, entries-begin, entries-step, entries-end, items-stop as stop, items-more as more}
@@ -219,12 +219,12 @@ module _ (T : Tables) (mode : Mode) (below n s : ℕ) where
       required-one true rest v x y e p = e
       required-one false rest v x y e p = rw p
 
-  object-first : objectWhole T mode below n s ≡ andThen (verdict (objectFirst (T .pool) (T .texts) (T .nodes) (T .schemas) (T .links) s n) s (noteIn T mode s)) (entriesOver (nodesIn T mode) (λ m. m) (visitOf T mode below) s (objectIn T mode s) n (entriesFrom T n 0 (nodeB (T .nodes) n)))
-  unfolding objectWhole objectAt objectFirst objectOf
+  object-first : objectWhole T mode below n s ≡ andThen (verdict (beforeEntries (T .pool) (T .texts) (T .nodes) (T .schemas) (T .links) s n) s (noteIn T mode s)) (entriesOver (nodesIn T mode) (λ m. m) (visitOf T mode below) s (objectIn T mode s) n (entriesFrom T n 0 (nodeB (T .nodes) n)))
+  unfolding objectWhole objectAt beforeEntries objectOf
   object-first =
       rw (required-over (slice (T .links) (requiredFirst (T .schemas) s) (requiredCount (T .schemas) s)), verdict-first, verdict-first, and-and, and-and)
 
-  module _ (v : Verdict) (e : v ≡ objectFirst (T .pool) (T .texts) (T .nodes) (T .schemas) (T .links) s n) where
+  module _ (v : Verdict) (e : v ≡ beforeEntries (T .pool) (T .texts) (T .nodes) (T .schemas) (T .links) s n) where
     pub object-wrong : OneOf (1 ∷ 2 ∷ 3 ∷ []) (tagOf verdict-type v) → objectWhole T mode below n s ≡ verdict v s (noteIn T mode s)
     object-wrong h = object-first ∙ rw (← e) (verdict-stop v s (noteIn T mode s) _ h)
 
@@ -235,7 +235,7 @@ module _ (T : Tables) (mode : Mode) (below n s : ℕ) where
   unfoldable pub entriesLeft : ℕ → ℕ → Outcome
   entriesLeft i count = entriesOver (nodesIn T mode) (λ m. m) (visitOf T mode below) s (objectIn T mode s) n (entriesFrom T n i (count - i))
 
-  pub object-start : (v : Verdict) (count : ℕ) → v ≡ objectFirst (T .pool) (T .texts) (T .nodes) (T .schemas) (T .links) s n → v ≡ Fine → count ≡ nodeB (T .nodes) n → objectWhole T mode below n s ≡ entriesLeft 0 count
+  pub object-start : (v : Verdict) (count : ℕ) → v ≡ beforeEntries (T .pool) (T .texts) (T .nodes) (T .schemas) (T .links) s n → v ≡ Fine → count ≡ nodeB (T .nodes) n → objectWhole T mode below n s ≡ entriesLeft 0 count
   unfolding entriesLeft
   object-start v count e h p = object-entries v e count h p ∙ entries-begin (nodesIn T mode) T (visitOf T mode below) s (objectIn T mode s) n count
 

@@ -2,7 +2,7 @@
 use Prim.Native.Nat.{ℕ, _+_, _-_, _*_, _≤_, _<_}
 use mathlib.Core.Path.{_≡_, refl, sym, ap, _∙_}
 use mathlib.Core.Bool.{Bool, true, false}
-use mathlib.Core.List.{List, [], _∷_, _++_}
+use mathlib.Core.List.{List, [], _++_}
 use native.Mathlib.Omega.{arith}
 use native.Mathlib.Nat.{zero-add}
 use native.Mathlib.Decide.{decLt}
@@ -11,10 +11,12 @@ use lib.ListN.{length, getD, set, replicate, length-append, length-replicate, ge
 use lib.Seq.{getD-set-same, getD-set-other, ext-getD, getD-append-add}
 use borrow.Author.Tests.{ltb-false}
 use Rattle.text.specs.Choice.{either, pick}
+use Rattle.text.specs.Text.{padded}
 use Rattle.error.specs.declared.Answer.{Answer}
 use Rattle.error.specs.Answers.{plainAnswer}
 use Rattle.error.specs.declared.Mode.{Mode}
-use Rattle.error.specs.Paths.{Step, pathWords, padded, instanceBuffer, schemaBuffer}
+use Rattle.error.specs.Paths.{Step, pathWords, instanceBuffer, schemaBuffer}
+use Rattle.error.proofs.Paths.{path-length}
 use Rattle.layout.specs.Layout.{Tables, mostBytes, nodeCount, schemaCount}
 use Rattle.tables.specs.declared.check.Fault.{Fault}
 use Rattle.tables.specs.declared.check.Fault.the-variants.{Sound, Bad}
@@ -58,11 +60,6 @@ padded-is p ys n e le front back =
         let m : length p ≤ j = omega arith in
         let s : j ≡ length p + (j - length p) = omega arith in
         back j m ∙ sym (ap (λ (q : ℕ). getD (p ++ replicate (n - length p) 0) q 0) s ∙ getD-append-add p (replicate (n - length p) 0) (j - length p) 0 ∙ getD-replicate (n - length p) (j - length p) 0 0 (omega arith))
-
-words-long : (p : List Step) → length (pathWords p) ≡ length p * 2
-unfolding pathWords
-words-long [] = refl
-words-long (x ∷ p) = let e : length (pathWords p) ≡ length p * 2 = words-long p in omega arith
 
 -- a path that stands in a buffer, and zeros behind it
 held : (p xs ys : List ℕ) (m n : ℕ) → m ≡ length p → length xs ≡ n → length p ≤ n → Holds xs 0 p → Cleared m xs ys → ys ≡ padded p n
@@ -111,7 +108,7 @@ pub finished : (o : Outcome) (I J I′ S R S′ : List ℕ) (a : Visited) (r : A
 finished o I J I′ S R S′ a r m li ls f =
     let x : stepsTold a ≡ length (stepsOf o) = ap stepsTold (m .answer) ∙ steps-told o in
     let y : kindsTold a ≡ length (kindsOf o) = ap kindsTold (m .answer) ∙ kinds-told o in
-    let w : length (pathWords (stepsOf o)) ≡ length (stepsOf o) * 2 = words-long (stepsOf o) in
+    let w : length (pathWords (stepsOf o)) ≡ length (stepsOf o) * 2 = path-length (stepsOf o) in
     leaving-is r I′ S′ (stepsOf o) (kindsOf o) (length I) (length S)
     (held (pathWords (stepsOf o)) J I′ (stepsTold a * 2) (length I) (omega (arith, x, w)) (m .calm-i .long) (omega (arith, m .few-i, w, li)) (m .path-i refl) (f .instance))
     (held (kindsOf o) R S′ (kindsTold a) (length S) y (m .calm-s .long) (omega (arith, m .few-k, ls)) (m .path-s refl) (f .schema))

@@ -1,6 +1,6 @@
 -- One step of each loop: lists in the links are walked by `slice L (first + i) (count - i)`, an object's entries by `entriesFrom`. And
 -- anyOf after its first error. Assumes nothing.
-use Prim.Native.Nat.{ℕ, suc, _+_, _-_, _≤_, _<_}
+use Prim.Native.Nat.{ℕ, _+_, _-_, _≤_, _<_}
 use mathlib.Core.Path.{_≡_, refl, sym, ap, _∙_}
 use mathlib.Core.Bool.{Bool}
 use mathlib.Core.List.{List, [], _∷_}
@@ -10,6 +10,7 @@ use lib.ListN.{getD}
 use types.Run.{OneOf}
 use denote.Enum.Declared.{tagOf}
 use Rattle.validator.proofs.paths.Visited.{the-type}
+use Rattle.text.proofs.Count.{one-more, none-left}
 use Rattle.error.specs.Paths.{itemStep}
 use Rattle.layout.specs.Layout.{Tables}
 use Rattle.schema.specs.Look.{slice}
@@ -23,12 +24,6 @@ use Rattle.validator.specs.Visit.{Nodes, anyOver, allOver, itemsOver, en
 use Rattle.validator.specs.Nodes.{entryOf, entriesFrom}
 use Rattle.validator.specs.Met.{told, orLater, lastly, Met, Later}
 use Rattle.validator.proofs.Buffers.{is-accepted, and-stop, and-go, met-accepted, met-ended}
-
-one-more : (i n : ℕ) → i < n → n - i ≡ suc (n - (i + 1))
-one-more i n h = omega arith
-
-none-left : (i n : ℕ) → n ≤ i → n - i ≡ 0
-none-left i n h = omega arith
 
 -- ---- lists in the links
 module _ (L : List ℕ) (first count : ℕ) where

@@ -17,7 +17,7 @@ use Rattle.error.specs.declared.Detail.the-variants.{Empty}
 use Rattle.error.specs.Answers.{NONE, plainAnswer, badTable, refusalOf}
 use Rattle.lookup.specs.declared.Found.{Found}
 use Rattle.lookup.specs.declared.Found.the-variants.{At, Nothing}
-use Rattle.lookup.specs.Lookup.{entryKey, propertyPlace, propertyOf, answerOfPattern}
+use Rattle.lookup.specs.Lookup.{entryKey, propertyPlace, propertyOf, answerOfPattern, findIn}
 use Rattle.judge.specs.declared.Verdict.{Verdict}
 use Rattle.judge.specs.declared.Verdict.the-variants.{Fine}
 use Rattle.judge.specs.Judge.{keyText}
@@ -33,7 +33,7 @@ use Rattle.validator.specs.declared.paths.Visited.the-variants.{Accepted
 use Rattle.validator.specs.Outcome.{Outcome, accepted, refused, invalid, ended, place, andThen, verdict}
 use Rattle.validator.specs.Visit.{Nodes, anyOver, allOver, arrayAt, objectAt, entriesOver, entryAt, refAt}
 use Rattle.validator.specs.Nodes.{nodesOf, entryOf, entriesFrom}
-use Rattle.validator.specs.Validate.{instanceWords, schemaStepWords, findIn, visitOf}
+use Rattle.validator.specs.Validate.{instanceWords, schemaStepWords, visitOf}
 
 -- ---- outcomes, as the code has them: the counts of both paths start at those of the visited place
 abbrev pub told : Outcome → ℕ → ℕ → Visited

@@ -1,9 +1,7 @@
 -- Document 01: what `validate` answers, and what both path buffers then hold. Order: 20, 21 node, 21 schema, 22, then the work.
 -- Assumes nothing.
 use Prim.Native.Nat.{ℕ}
-use mathlib.Core.Bool.{Bool}
 use mathlib.Core.List.{List, []}
-use mathlib.Core.Option.{Option}
 use lib.ListN.{length}
 use lib.Dec.{ltb}
 use Rattle.text.specs.Choice.{either, pick}
@@ -11,21 +9,16 @@ use Rattle.error.specs.declared.Answer.{Answer}
 use Rattle.error.specs.declared.Mode.{Mode}
 use Rattle.error.specs.declared.Detail.the-variants.{Empty}
 use Rattle.error.specs.Answers.{NONE, plainAnswer, badTable, refusalOf}
-use Rattle.error.specs.Paths.{Step, instanceBuffer, schemaBuffer}
+use Rattle.error.specs.Paths.{levels, Step, instanceBuffer, schemaBuffer}
 use Rattle.layout.specs.Layout.{Tables, nodeCount, schemaCount}
-use Rattle.lookup.specs.Lookup.{resolveOf, answerOfPattern}
+use Rattle.lookup.specs.Lookup.{findIn, answerOfPattern}
 use Rattle.tables.specs.declared.check.Fault.{Fault}
 use Rattle.tables.specs.declared.check.Fault.the-variants.{Sound, Bad}
 use Rattle.tables.specs.Check.{tablesFault}
 use Rattle.schema.specs.Look.{wordsOf, look}
 use Rattle.validator.specs.Outcome.{Error, Outcome, accepted, refused, invalid, ended}
 use Rattle.validator.specs.Visit.{visitAt}
-use Rattle.judge.specs.Judge.{toOption}
 use Rattle.validator.specs.Nodes.{nodesOf}
-
--- 64 levels may nest
-abbrev pub levels : ℕ
-levels = 64
 
 -- a short path buffer: under 128 words (instance) or 64 (schema)
 abbrev pub instanceWords : ℕ
@@ -33,10 +26,6 @@ instanceWords = 128
 
 abbrev pub schemaStepWords : ℕ
 schemaStepWords = 64
-
--- a ref's schema: the last registry entry of that name
-unfoldable pub findIn : Tables → ℕ → Option ℕ
-findIn T text = toOption (resolveOf (T .pool) (T .texts) (T .registry) text)
 
 -- the visit on these tables, with k levels left
 unfoldable pub visitOf : Tables → Mode → ℕ → ℕ → ℕ → Outcome

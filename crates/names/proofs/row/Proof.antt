@@ -1,5 +1,6 @@
 -- `names::row` meets its contract: its two lists are the table, whose rule is proved once. Assumes nothing.
 use mathlib.Core.List.{flatMap}
+use Rattle.text.specs.Text.{padded}
 use Rattle.names.specs.Names.{named, tableNames, nodeNames, schemaNames}
 use Rattle.names.proofs.Table.{rowAt, bytes, lengths, row-at}
 use borrow.Author.Needs.{needs}
@@ -61,7 +62,7 @@ array-read-t47 : tie.Need-array-read-t47
 array-read-t47 c = search needs
 
 returns : tie.Need-returns
-unfolding rowAt bytes lengths named tableNames nodeNames schemaNames flatMap
+unfolding rowAt bytes lengths named padded tableNames nodeNames schemaNames flatMap
 returns c = row-at (c .args .k) (c .pre)
 
 pub row-spec : {M : Type 1} → statement M

@@ -1,10 +1,10 @@
 use Prim.Native.Nat.{_-_}
 use mathlib.Core.Path.{_≡_, refl, _∙_, ap}
 use borrow.Author.Needs.{needs}
-use Rattle.lookup.specs.Find.{firstFrom}
+use Rattle.lookup.specs.Find.{firstFrom, found}
 use Rattle.lookup.specs.Lookup.{entryHasKey}
 use Rattle.lookup.proofs.Find.{first-begin, first-more, first-stop, first-end}
-use Rattle.judge.specs.Judge.{hasEarlier, found}
+use Rattle.judge.specs.Judge.{hasEarlier}
 use Rattle.objects.proofs.Objects.{entry-key-is}
 use Rattle.objects.proofs.has_earlier_with.Statement.{statement}
 use Rattle.objects.proofs.has_earlier_with.Tie as tie

@@ -1,6 +1,7 @@
 use mathlib.Core.Path.{sym, _∙_, ap}
-use Rattle.judge.specs.Judge.{hasKey, found}
+use Rattle.judge.specs.Judge.{hasKey}
 use borrow.Author.Needs.{needs}
+use Rattle.lookup.specs.Find.{found}
 use Rattle.objects.proofs.has_key.Statement.{statement}
 use Rattle.objects.proofs.has_key.Tie as tie
 
