@@ -1,8 +1,8 @@
 -- The check by used counts: where the sizes are sound, the used parts are whole tables, so that the check of these is the check of their records.
 -- Assumes nothing.
 use Prim.Native.Nat.{ℕ, _*_, _/_, _%_, _≤_}
-use mathlib.Core.Path.{_≡_, refl, _∙_}
-use mathlib.Core.Bool.{Bool, true, false}
+use mathlib.Core.Path.{_≡_, _∙_}
+use mathlib.Core.Bool.{Bool, true}
 use mathlib.Core.List.{List}
 use native.Mathlib.Omega.{arith}
 use borrow.Author.Tests.{eq-eqb, le-leb, leb-true}
@@ -14,26 +14,9 @@ use Rattle.layout.specs.Layout.{Tables, tables, noteWords, schemaWords, mostNot
 use Rattle.error.specs.declared.Used.{Used}
 use Rattle.tables.specs.declared.check.Fault.{Fault}
 use Rattle.tables.specs.declared.check.Fault.the-variants.{Sound, Bad}
-use Rattle.tables.specs.Check.{wholeSize, usedSize, sizeOr, sizesFault, orElse, lentFault, tablesFault}
+use Rattle.tables.specs.Check.{wholeSize, usedSize, sizesFault, lentFault, tablesFault}
+use Rattle.tables.proofs.Faults.{first-sound, size-good, size-rest}
 use Rattle.compilation.specs.Entry.{usedTables, usedFault}
-
-never : {A : Type 0} {t n : ℕ} → Bad t n ≡ Sound → A
-never h = let z : _≡_ {A = ℕ} 0 1 = cc in absurd (omega arith)
-
-first-sound : (a b : Fault) → orElse a b ≡ Sound → a ≡ Sound
-first-sound Sound b h = refl
-first-sound (Bad table n) b h = never h
-
--- a size that is sound is good, and so are those after it
-size-good : (good : Bool) (table : ℕ) (rest : Fault) → sizeOr good table rest ≡ Sound → good ≡ true
-unfolding sizeOr
-size-good true table rest h = refl
-size-good false table rest h = never h
-
-size-rest : (good : Bool) (table : ℕ) (rest : Fault) → sizeOr good table rest ≡ Sound → rest ≡ Sound
-unfolding sizeOr
-size-rest true table rest h = h
-size-rest false table rest h = never h
 
 sizes-fit : (pool texts nodes registry patterns numbers : List ℕ) (n s l : Bool) → sizesFault pool texts nodes registry patterns numbers n s l ≡ Sound → (n ≡ true) × (s ≡ true) × (l ≡ true)
 unfolding sizesFault

@@ -12,8 +12,7 @@ use Rattle.error.specs.Paths.{levels}
 use Rattle.layout.specs.Layout.{Tables, noteWords, schemaWords, mostNotes, mostSchemas, mostLinks, noteCount, schemaCount}
 use Rattle.lookup.specs.Lookup.{findIn}
 use Rattle.tables.specs.declared.check.Fault.{Fault}
-use Rattle.tables.specs.declared.check.Fault.the-variants.{Sound, Bad}
-use Rattle.tables.specs.Check.{usedSize, sizesFault, recordsFault, orElse}
+use Rattle.tables.specs.Check.{usedSize, sizesFault, recordsFault, onFault, orElse}
 use Rattle.schema.specs.Look.{Words, wordsOf}
 use Rattle.compilation.specs.Compile.{Result, ok, refuse, Room, compileAt}
 
@@ -89,8 +88,7 @@ abbrev pub untouched : Tables → Answer → Compiled
 untouched T a = record { answer = a; notes = T .notes; schemas = T .schemas; links = T .links }
 
 abbrev pub orFault : Tables → Used → Fault → Compiled → Compiled
-orFault T u Sound rest = rest
-orFault T u (Bad table n) rest = untouched T (withUsed (badTable table n) u)
+orFault T u f rest = onFault f (λ table n. untouched T (withUsed (badTable table n) u)) rest
 
 -- bad tables first, then a schema number that no used record has, then the work
 unfoldable pub compileOf : Tables → Used → ℕ → Compiled

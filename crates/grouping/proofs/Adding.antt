@@ -4,6 +4,7 @@ use mathlib.Core.Path.{_≡_, refl, ap, ap₂, _∙_}
 use mathlib.Core.Bool.{Bool, true, false}
 use mathlib.Core.List.{List, [], _∷_}
 use mathlib.Core.Option.{Option, some, none}
+use native.Mathlib.Omega.{arith}
 use lib.ListN.{length, getD}
 use lib.Dec.{eqb, leb}
 use Rattle.text.specs.Choice.{pick}
@@ -15,7 +16,7 @@ use Rattle.merge.specs.Pairs.{pairsAt, flatPairs}
 use Rattle.compilation.specs.Compile.{Result, ok, refuse, then, Room, withRow, withLinks, addRow, addLinks, addList, addObject}
 use Rattle.grouping.specs.Record.{rowAt, noteIn, arrayOf, objectOf, shapeOf, basesOf, count}
 use Rattle.grouping.specs.Tree.{Every, nil, one, EveryPair, Perhaps, present, PerhapsEvery, absents, presents, NamesIn, inNone, inNamed, inAny, inAll, inArray, inObject}
-use Rattle.grouping.proofs.Growing.{Extends, extends-more, extends-links, Sound, sound-links, Added, sound-row, row-step, links-step, links-read, pairs-read}
+use Rattle.grouping.proofs.Growing.{Extends, extends-more, extends-links, Sound, sound-links, Added, sound-row, links-step, last-row, links-read, pairs-read}
 
 pub ask-parts : {P : ℕ → Type 0} (a : ℕ) (b : Bool) → Perhaps P (pick b none (some a)) → PerhapsEvery P (pick b none (some (a ∷ [])))
 ask-parts a true q = absents
@@ -66,18 +67,18 @@ module _ (R : Room) (eq : ℕ → ℕ → Bool) (find : ℕ → Option ℕ) (roo
   unfolding addList
   any-law note ν xs t r t′ z noted q e =
       let on : Extends t (withLinks t xs) = extends-links t xs in
-      row-step R eq find (λ r t′. Added t t′ r (anyOf ν xs)) _ (withLinks t xs) r t′ roomy
-      (λ few. later-added on (any-at note ν xs (length (t .links)) (withLinks t xs) (sound-links xs z) (λ u f. noted u (extends-more on f)) (λ u f. links-read t xs f) q few))
-      (links-step R eq find xs t _ r t′ e)
+      last-row R eq find (λ r t′. Added t t′ r (anyOf ν xs)) _ (withLinks t xs) r t′
+      (λ room. later-added on (any-at note ν xs (length (t .links)) (withLinks t xs) (sound-links xs z) (λ u f. noted u (extends-more on f)) (λ u f. links-read t xs f) q (omega (arith, room))))
+      (links-step R eq find xs t _ r t′ e .1)
 
   pub all-law : (note : ℕ) (ν : Option Note) (xs : List ℕ) (t : Words) (r : ℕ) (t′ : Words) → Sound t → ((u : Words) → Extends t u → noteIn u note ≡ ν) →
       Every (λ x. x < count t) xs → addList R eq find 8 note xs t ≡ ok r t′ → Added t t′ r (allOf ν xs)
   unfolding addList
   all-law note ν xs t r t′ z noted q e =
       let on : Extends t (withLinks t xs) = extends-links t xs in
-      row-step R eq find (λ r t′. Added t t′ r (allOf ν xs)) _ (withLinks t xs) r t′ roomy
-      (λ few. later-added on (all-at note ν xs (length (t .links)) (withLinks t xs) (sound-links xs z) (λ u f. noted u (extends-more on f)) (λ u f. links-read t xs f) q few))
-      (links-step R eq find xs t _ r t′ e)
+      last-row R eq find (λ r t′. Added t t′ r (allOf ν xs)) _ (withLinks t xs) r t′
+      (λ room. later-added on (all-at note ν xs (length (t .links)) (withLinks t xs) (sound-links xs z) (λ u f. noted u (extends-more on f)) (λ u f. links-read t xs f) q (omega (arith, room))))
+      (links-step R eq find xs t _ r t′ e .1)
 
   -- an array's words, its items new
   abbrev pub arrayWords : List ℕ → ℕ → List ℕ
@@ -86,9 +87,9 @@ module _ (R : Room) (eq : ℕ → ℕ → Bool) (find : ℕ → Option ℕ) (roo
   pub array-law : (row : List ℕ) (w : Own) (y : ℕ) (t : Words) (r : ℕ) (t′ : Words) → Sound t → ((u : Words) → Extends t u → arrayOf u row ≡ w) →
       Perhaps (λ x. x < count t) (optional y) → addRow R eq find (arrayWords row y) t ≡ ok r t′ → Added t t′ r (array w (optional y))
   array-law row w y t r t′ z owned q e =
-      row-step R eq find (λ r t′. Added t t′ r (array w (optional y))) _ t r t′ roomy
-      (λ few. sound-row (arrayWords row y) (array w (optional y)) (some []) z (long row y)
-      (λ u f. reads u row y ∙ ap (λ (a : Own). array a (optional y)) (owned u f)) (λ u f. based u row y) few (inArray q) (presents nil)) e
+      last-row R eq find (λ r t′. Added t t′ r (array w (optional y))) _ t r t′
+      (λ room. sound-row (arrayWords row y) (array w (optional y)) (some []) z (long row y)
+      (λ u f. reads u row y ∙ ap (λ (a : Own). array a (optional y)) (owned u f)) (λ u f. based u row y) (omega (arith, room)) (inArray q) (presents nil)) e
     where
       long : (r : List ℕ) (y : ℕ) → length (arrayWords r y) ≡ 16
       long r y = refl
@@ -170,8 +171,8 @@ module _ (R : Room) (eq : ℕ → ℕ → Bool) (find : ℕ → Option ℕ) (roo
       let on₁ : Extends t t₁ = extends-links t (flatPairs ps) in
       let on₂ : Extends t₁ t₂ = extends-links t₁ (flatPairs qs) in
       let on : Extends t t₂ = extends-more on₁ on₂ in
-      row-step R eq find (λ r t′. Added t t′ r (object (objectWords ν ps qs a req (getD row 9 0) (getD row 10 0) (getD row 11 0) n (getD row 13 0)))) _ t₂ r t′ roomy
-      (λ few. later-added on (object-at (getD row 1 0) (length (t .links)) (length (t₁ .links)) a (getD row 7 0) (getD row 8 0) (getD row 9 0) (getD row 10 0) (getD row 11 0) n (getD row 13 0) ν ps qs req t₂
+      last-row R eq find (λ r t′. Added t t′ r (object (objectWords ν ps qs a req (getD row 9 0) (getD row 10 0) (getD row 11 0) n (getD row 13 0)))) _ t₂ r t′
+      (λ room. later-added on (object-at (getD row 1 0) (length (t .links)) (length (t₁ .links)) a (getD row 7 0) (getD row 8 0) (getD row 9 0) (getD row 10 0) (getD row 11 0) n (getD row 13 0) ν ps qs req t₂
       (sound-links {t = t₁} (flatPairs qs) (sound-links {t = t} (flatPairs ps) z)) (λ u f. noted u (extends-more on f)) (λ u f. pairs-read t ps (extends-more on₂ f)) (λ u f. pairs-read t₁ qs f)
-      (λ u f. requires u (extends-more on f)) eps eqs ea en few))
-      (links-step R eq find (flatPairs qs) t₁ _ r t′ (links-step R eq find (flatPairs ps) t _ r t′ e))
+      (λ u f. requires u (extends-more on f)) eps eqs ea en (omega (arith, room))))
+      (links-step R eq find (flatPairs qs) t₁ _ r t′ (links-step R eq find (flatPairs ps) t _ r t′ e .1) .1)

@@ -58,10 +58,10 @@ module _ {N : Type 0} (B : Trees N) (eq : ℕ → ℕ → Bool) (L : Keys eq) (R
 
   module _ (U U′ : Words) (y : Sound U) (y′ : Sound U′) (e : Extends T U) (e′ : Extends T′ U′) where
     few : count U ≤ NONE
-    few = omega (arith, y .few)
+    few = omega (arith, y .placed .few)
 
     few′ : count U′ ≤ NONE
-    few′ = omega (arith, y′ .few)
+    few′ = omega (arith, y′ .placed .few)
 
     abbrev TwinsIn : ℕ → ℕ → Type 0
     TwinsIn = Twins B (look U) (look U′) (count U) (count U′) (ordered y) (ordered y′) few few′

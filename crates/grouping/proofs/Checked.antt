@@ -1,5 +1,5 @@
 -- Tables in range read the same whatever is appended. Assumes nothing.
-use Prim.Native.Nat.{ℕ, zero, suc, _+_, _*_, _/_, _≤_, _<_}
+use Prim.Native.Nat.{ℕ, zero, suc, _+_, _*_, _≤_, _<_}
 use mathlib.Core.Path.{_≡_, refl, sym, ap, ap₂, _∙_}
 use mathlib.Core.Bool.{Bool, true, false}
 use mathlib.Core.List.{List, [], _∷_, _++_}
@@ -11,12 +11,11 @@ use borrow.Author.Tests.{eqb-true, eqb-false}
 use Rattle.text.specs.Choice.{pick}
 use Rattle.layout.specs.Layout.{NONE}
 use Rattle.schema.specs.Shape.{Note, Own, nameless, named, plain, anyOf, allOf, array, object, ref}
-use Rattle.schema.specs.Look.{Words, slice, optional, raw, bases}
+use Rattle.schema.specs.Look.{Words, slice, optional, bases}
 use Rattle.merge.specs.Pairs.{pairsAt}
 use Rattle.grouping.specs.Record.{rowAt, noteOfRow, noteIn, ownOf, arrayOf, objectOf, shapeOf, basesOf, count}
-use Rattle.grouping.specs.Tree.{PerhapsEvery, Children}
-use Rattle.grouping.proofs.Rowed.{row-slice, note-row, raw-row, bases-row}
-use Rattle.grouping.proofs.Growing.{Extends, Sound, slice-kept}
+use Rattle.grouping.proofs.Rowed.{note-row, raw-row, bases-row}
+use Rattle.grouping.proofs.Growing.{Extends, Placed, Sound, slice-kept, row-kept}
 
 pub record RowIn (t : Words) (r : List ℕ) : Type 0 where
   pub note : (getD r 1 0 ≡ NONE → ⊥) → getD r 1 0 * 9 + 9 ≤ length (t .notes)
@@ -105,28 +104,12 @@ module _ {t u : Words} (e : Extends t u) where
 
 -- what the table check establishes of tables 3, 4 and 7
 pub record InRange (t : Words) : Type 0 where
-  pub rows : count t * 16 ≡ length (t .schemas)
-  pub note-rows : length (t .notes) / 9 * 9 ≡ length (t .notes)
-  pub few : count t < NONE
-  pub few-notes : length (t .notes) / 9 < NONE
+  pub placed : Placed t
   pub row : (s : ℕ) → s < count t → RowIn t (rowAt t s)
-  pub below : (s : ℕ) → s < count t → Children (λ x. x < s) (raw t s)
-  pub bases-below : (s : ℕ) → s < count t → PerhapsEvery (λ x. x < s) (bases t s)
-
-row-same : {t u : Words} → InRange t → Extends t u → (s : ℕ) → s < count t → rowAt u s ≡ rowAt t s
-unfolding rowAt
-row-same {t} {u} z e s i =
-    row-slice (u .schemas) s 0 16 ∙
-    (rw (e .schemas-are) (slice-kept (t .schemas) (e .schemas) (s * 16 + 0) 16 (omega (arith, z .rows))) ∙ sym (row-slice (t .schemas) s 0 16))
 
 pub sound : {t : Words} → InRange t → Sound t
 sound {t} z = record {
-  rows = z .rows;
-  note-rows = z .note-rows;
-  few = z .few;
-  few-notes = z .few-notes;
-  steady = λ s i u e. raw-row u s ∙ (ap (shapeOf u) (row-same z e s i) ∙ (shape-steady e (rowAt t s) (z .row s i) ∙ sym (raw-row t s)));
-  steady-bases = λ s i u e. bases-row u s ∙ (ap (basesOf u) (row-same z e s i) ∙ (bases-steady e (rowAt t s) (z .row s i) ∙ sym (bases-row t s)));
-  below = z .below;
-  bases-below = z .bases-below;
+  placed = z .placed;
+  steady = λ s i u e. raw-row u s ∙ (ap (shapeOf u) (row-kept (z .placed) e s i) ∙ (shape-steady e (rowAt t s) (z .row s i) ∙ sym (raw-row t s)));
+  steady-bases = λ s i u e. bases-row u s ∙ (ap (basesOf u) (row-kept (z .placed) e s i) ∙ (bases-steady e (rowAt t s) (z .row s i) ∙ sym (bases-row t s)));
 }

@@ -10,32 +10,22 @@ use lib.Dec.{eqb}
 use borrow.Author.Tests.{ne-eqb}
 use Rattle.text.specs.Choice.{pick}
 use Rattle.layout.specs.Layout.{NONE}
-use Rattle.schema.specs.Shape.{Note, Pair, Own, Names, nameless, detects, named, Object, Shape, plain, anyOf, allOf, array, object, ref}
+use Rattle.schema.specs.Shape.{Note, Pair, Own, nameless, detects, named, Object, Shape, plain, anyOf, allOf, array, object, ref}
 use Rattle.schema.specs.Look.{Words, ownWords, slice, optional, detecting, sortNames, sortObject, sortShape, raw, look, bases}
 use Rattle.merge.specs.Merge.{Gathered, start, gather, noteOf, derive, merge, naming}
-use Rattle.compilation.specs.Compile.{Result, ok, refuse, then, Room, objectsCons, objectsOf, looks, addArray, each, eachPair, optionally, mergeFrom, eagerly, compileShape, compileAt}
+use Rattle.compilation.specs.Compile.{Result, ok, Room, objectsCons, objectsOf, looks, addArray, each, eachPair, optionally, mergeFrom, eagerly, compileShape, compileAt}
 use Rattle.grouping.specs.Record.{rowAt, noteIn, arrayOf, objectOf, count}
-use Rattle.grouping.specs.Tree.{Trees, View, mapList, flatList, mapOption, mapPair, mapNames, whole, readObject, readShape, openAll, openAny, viewBody, view, Every, nil, one, EveryPair, nilPair, onePair, Perhaps, absent, present, PerhapsEvery, absents, presents, NamesIn, inNone, inDetects, inNamed, ObjectIn, Children, inPlain, inAny, inAll, inArray, inObject, inRef}
+use Rattle.grouping.specs.Tree.{Trees, View, mapList, flatList, mapOption, mapPair, mapNames, whole, readObject, readShape, openAll, openAny, viewBody, view, Every, nil, one, EveryPair, nilPair, onePair, Perhaps, absent, present, PerhapsEvery, absents, presents, NamesIn, inNone, inNamed, ObjectIn, Children, inAny, inAll, inArray, inObject}
 use Rattle.grouping.specs.Meant.{bind, eachM, eachPairM, optionM, onePart, oneName, selfView, shapeOfView, closed, namesFrom, additionalFrom, objectFrom, mergeM, eagerlyM, meantShape, meantAt, meantOf}
 use Rattle.grouping.proofs.Rowed.{raw-row}
 use Rattle.grouping.proofs.Reading.{object-same, view-is}
-use Rattle.grouping.proofs.Growing.{Extends, extends-self, extends-more, Sound, Added, count-grows, row-kept, pairs-later, option-later}
+use Rattle.grouping.proofs.Shapes.{every-less, pairs-less, option-less, object-less, children-less}
+use Rattle.grouping.proofs.Growing.{Extends, extends-self, extends-more, Sound, Added, count-grows, row-kept, then-elim, ok-same, pairs-later, option-later}
 use Rattle.grouping.proofs.Frame.{sort-children, look-kept, view-kept, view-of, ordered}
 use Rattle.grouping.proofs.Adding.{any-law, all-law, array-law, rowObject, row-object, object-law, objectWords}
 use Rattle.grouping.proofs.Joining.{Joined, jNone, jOne, jMany, MergeAdded, merged-law}
 use Rattle.grouping.proofs.Natural.{nat-merge, Tidy, AllTidy, noneTidy, oneTidy, GatheredIn, gather-in, start-in, putAll-in, join-in, join-filled}
 use Rattle.grouping.proofs.Rows.{Reads, rPlain, rAny, rAll, rArray, rObject, rRef, reads, note-steady, required-steady, Plain, tidy}
-
--- what went well went on
-pub then-elim : {A B : Type 0} {C : Type 0} (r : Result A) (f : A → Words → Result B) (b : B) (t′ : Words) → ((a : A) (u : Words) → r ≡ ok a u → f a u ≡ ok b t′ → C) → then r f ≡ ok b t′ → C
-then-elim (ok a u) f b t′ k e = k a u refl e
-then-elim (refuse n) f b t′ k e = absurd (let q : _≡_ {A = ℕ} 0 1 = cc in omega arith)
-
-pub ok-same : {A : Type 0} (P : A → Words → Type 0) (a b : A) (t u : Words) → ok a t ≡ ok b u → P a t → P b u
-ok-same P a b t u e p =
-    let x : a ≡ b = cc in
-    let y : t ≡ u = cc in
-    subst (λ (w : Words). P b w) y (subst (λ (c : _). P c t) x p)
 
 map-map : {A B C : Type 0} (f : B → C) (g : A → B) (xs : List A) → mapList (λ x. f (g x)) xs ≡ mapList f (mapList g xs)
 unfolding mapList
@@ -52,18 +42,6 @@ unfolding mapList
 pairs-map f g [] = refl
 pairs-map f g (x ∷ xs) = ap (λ (y : List (Pair _)). mapPair (λ x. f (g x)) x ∷ y) (pairs-map f g xs)
 
-pub every-less : {s n : ℕ} → s ≤ n → {xs : List ℕ} → Every (λ x. x < s) xs → Every (λ x. x < n) xs
-every-less le nil = nil
-every-less le (one {x = x} p ps) = one {x = x} (omega arith) (every-less le ps)
-
-pub pairs-less : {s n : ℕ} → s ≤ n → {xs : List (Pair ℕ)} → EveryPair (λ x. x < s) xs → EveryPair (λ x. x < n) xs
-pairs-less le nilPair = nilPair
-pairs-less le (onePair {x = x} p ps) = onePair {x = x} (omega arith) (pairs-less le ps)
-
-option-less : {s n : ℕ} → s ≤ n → {x : Option ℕ} → Perhaps (λ x. x < s) x → Perhaps (λ x. x < n) x
-option-less le absent = absent
-option-less le (present {x = x} p) = present {x = x} (omega arith)
-
 word-less : {s n : ℕ} → s ≤ n → (a : ℕ) (b : Bool) → PerhapsEvery (λ x. x < s) (pick b none (some (a ∷ []))) → Perhaps (λ x. x < n) (pick b none (some a))
 word-less le a true q = absent
 word-less le a false (presents (one p ps)) = present {x = a} (omega arith)
@@ -71,26 +49,6 @@ word-less le a false (presents (one p ps)) = present {x = a} (omega arith)
 names-less : {s n : ℕ} → s ≤ n → (a : ℕ) (b : Bool) → NamesIn (λ x. x < s) (pick b nameless (named (a ∷ []))) → Perhaps (λ x. x < n) (pick b none (some a))
 names-less le a true q = absent
 names-less le a false (inNamed (one p ps)) = present {x = a} (omega arith)
-
-pub every-perhaps : {s n : ℕ} → s ≤ n → {x : Option (List ℕ)} → PerhapsEvery (λ x. x < s) x → PerhapsEvery (λ x. x < n) x
-every-perhaps le absents = absents
-every-perhaps le (presents q) = presents (every-less le q)
-
-pub every-names : {s n : ℕ} → s ≤ n → {x : Names ℕ} → NamesIn (λ x. x < s) x → NamesIn (λ x. x < n) x
-every-names le inNone = inNone
-every-names le (inDetects {x = x} p) = inDetects {x = x} (omega arith)
-every-names le (inNamed q) = inNamed (every-less le q)
-
-object-less : {s n : ℕ} → s ≤ n → {o : Object ℕ} → ObjectIn (λ x. x < s) o → ObjectIn (λ x. x < n) o
-object-less le q = record { props = pairs-less le (q .props); patterns = pairs-less le (q .patterns); additional = every-perhaps le (q .additional); names = every-names le (q .names) }
-
-children-less : {s n : ℕ} → s ≤ n → {sh : Shape ℕ} → Children (λ x. x < s) sh → Children (λ x. x < n) sh
-children-less le inPlain = inPlain
-children-less le (inAny q) = inAny (every-less le q)
-children-less le (inAll q) = inAll (every-less le q)
-children-less le (inArray q) = inArray (option-less le q)
-children-less le (inObject q) = inObject (object-less le q)
-children-less le inRef = inRef
 
 naming-in : {P : ℕ → Type 0} {x : Option (List ℕ)} → PerhapsEvery P x → NamesIn P (naming x)
 naming-in absents = inNone
@@ -181,9 +139,9 @@ module _ {N : Type 0} (B : Trees N) where
       mapOption (flatList (λ x. (Vw t x) .alls)) (pick (eqb a NONE) none (some (a ∷ []))) ≡ mapOption (flatList (λ x. (Vw t x) .alls)) x
   unfolding flatList
   extra-joined z jNone = refl
-  extra-joined z (jOne {x = x} i) = rw (ne-eqb x NONE (λ e. omega (arith, z .few)))
+  extra-joined z (jOne {x = x} i) = rw (ne-eqb x NONE (λ e. omega (arith, z .placed .few)))
   extra-joined {t} z (jMany {xs = xs} {j = j} i r) =
-      rw (ne-eqb j NONE (λ e. omega (arith, z .few))) (ap some (append-nil ((Vw t j) .alls) ∙ parts))
+      rw (ne-eqb j NONE (λ e. omega (arith, z .placed .few))) (ap some (append-nil ((Vw t j) .alls) ∙ parts))
     where
       parts : (Vw t j) .alls ≡ flatList (λ x. (Vw t x) .alls) xs
       parts = ap (λ (x : View N). x .alls) (view-of B z j i (allOf none xs) r) ∙ (unfold viewBody sortShape openAll in refl)
@@ -193,9 +151,9 @@ module _ {N : Type 0} (B : Trees N) where
       mapNames (λ x. whole B (Vw t x)) (λ x. (Vw t x) .anys) (naming x)
   unfolding flatList sortNames detecting
   names-joined z jNone q = refl
-  names-joined z (jOne {x = x} i) (presents (one p nil)) = rw (ne-eqb x NONE (λ e. omega (arith, z .few)), p)
+  names-joined z (jOne {x = x} i) (presents (one p nil)) = rw (ne-eqb x NONE (λ e. omega (arith, z .placed .few)), p)
   names-joined {t} z (jMany {xs = xs} {j = j} i r) q =
-      rw (ne-eqb j NONE (λ e. omega (arith, z .few)), r) (ap named (append-nil ((Vw t j) .anys) ∙ parts))
+      rw (ne-eqb j NONE (λ e. omega (arith, z .placed .few)), r) (ap named (append-nil ((Vw t j) .anys) ∙ parts))
     where
       parts : (Vw t j) .anys ≡ flatList (λ x. (Vw t x) .anys) xs
       parts = ap (λ (x : View N). x .anys) (view-of B z j i (anyOf none xs) r) ∙ (unfold viewBody sortShape openAny in refl)
@@ -335,7 +293,7 @@ module _ {N : Type 0} (B : Trees N) where
           at true q h = ok-same (λ y t′. Optional (some none) t t′ y) NONE y t t′ h (record { grown = extends-self t; sound = z; new = absent; is = refl })
           at false (present p) h =
               let d : Done (gm x) t t′ y = good x p t t′ y z e h in
-              let f : eqb y NONE ≡ false = ne-eqb y NONE (λ q. omega (arith, d .new, d .sound .few)) in
+              let f : eqb y NONE ≡ false = ne-eqb y NONE (λ q. omega (arith, d .new, d .sound .placed .few)) in
               record { grown = d .grown; sound = d .sound; new = rw f (present (d .new)); is = rw (d .is, f) }
 
       module _ (s : ℕ) (i : s < count T) (t : Words) (z : Sound t) (e : Extends T t) where
@@ -347,7 +305,7 @@ module _ {N : Type 0} (B : Trees N) where
             let f : Eaches (eachM gm xs) t u ys = each-law xs q t u ys z e a in
             let on : Extends T u = extends-more e (f .grown) in
             let d : Added u t′ r (anyOf note ys) = any-law R eq find roomy note-room (getD (rowAt u s) 1 0) note ys u r t′ (f .sound)
-            (λ w g. ap (λ (x : List ℕ). noteIn w (getD x 1 0)) (row-kept zT on s i) ∙ (note-steady zT (extends-more on g) s i ∙ noted)) (f .news) h in
+            (λ w g. ap (λ (x : List ℕ). noteIn w (getD x 1 0)) (row-kept (zT .placed) on s i) ∙ (note-steady zT (extends-more on g) s i ∙ noted)) (f .news) h in
             record {
               grown = extends-more (f .grown) (d .grown);
               sound = d .sound;
@@ -364,7 +322,7 @@ module _ {N : Type 0} (B : Trees N) where
             let f : Eaches (eachM gm xs) t u ys = each-law xs q t u ys z e a in
             let on : Extends T u = extends-more e (f .grown) in
             let d : Added u t′ r (allOf note ys) = all-law R eq find roomy note-room (getD (rowAt u s) 1 0) note ys u r t′ (f .sound)
-            (λ w g. ap (λ (x : List ℕ). noteIn w (getD x 1 0)) (row-kept zT on s i) ∙ (note-steady zT (extends-more on g) s i ∙ noted)) (f .news) h in
+            (λ w g. ap (λ (x : List ℕ). noteIn w (getD x 1 0)) (row-kept (zT .placed) on s i) ∙ (note-steady zT (extends-more on g) s i ∙ noted)) (f .news) h in
             record {
               grown = extends-more (f .grown) (d .grown);
               sound = d .sound;
@@ -375,14 +333,14 @@ module _ {N : Type 0} (B : Trees N) where
 
         array-steady : (u w : Words) → Extends T u → Extends u w → arrayOf w (rowAt u s) ≡ arrayOf T (rowAt T s)
         unfolding arrayOf
-        array-steady u w on g = rw (row-kept zT on s i) (ap (λ (x : Option Note). record { kind = 9; note = x; words = slice (rowAt T s) 3 3 }) (note-steady zT (extends-more on g) s i))
+        array-steady u w on g = rw (row-kept (zT .placed) on s i) (ap (λ (x : Option Note). record { kind = 9; note = x; words = slice (rowAt T s) 3 3 }) (note-steady zT (extends-more on g) s i))
 
         array-case : (b : Option (List ℕ)) → Perhaps (λ x. x < count T) (optional (getD (rowAt T s) 2 0)) → (t′ : Words) (r : ℕ) →
             compileShape R eq find go s t (array (arrayOf T (rowAt T s)) (optional (getD (rowAt T s) 2 0))) b ≡ ok r t′ → Done (meantShape B eq find (view B (look T)) gm s (array (arrayOf T (rowAt T s)) (optional (getD (rowAt T s) 2 0))) b) t t′ r
         unfolding compileShape meantShape addArray rowAt ownWords
         array-case b q t′ r =
             then-elim (optionally R eq find go (getD (rowAt t s) 2 0) t) _ r t′ (λ y u a h.
-            let f : Optional (optionM gm (optional (getD (rowAt T s) 2 0))) t u y = optional-law (getD (rowAt T s) 2 0) q t u y z e (subst (λ (x : List ℕ). optionally R eq find go (getD x 2 0) t ≡ ok y u) (row-kept zT e s i) a) in
+            let f : Optional (optionM gm (optional (getD (rowAt T s) 2 0))) t u y = optional-law (getD (rowAt T s) 2 0) q t u y z e (subst (λ (x : List ℕ). optionally R eq find go (getD x 2 0) t ≡ ok y u) (row-kept (zT .placed) e s i) a) in
             let on : Extends T u = extends-more e (f .grown) in
             let d : Added u t′ r (array (arrayOf T (rowAt T s)) (optional y)) = array-law R eq find roomy note-room (rowAt u s) (arrayOf T (rowAt T s)) y u r t′ (f .sound)
             (λ w g. array-steady u w on g) (f .new) h in
@@ -447,16 +405,16 @@ module _ {N : Type 0} (B : Trees N) where
             let e₁ : Extends T u₁ = extends-more e (f₁ .grown) in
             let f₂ : Pairings (eachPairM gm (o .patterns)) u₁ u₂ qs = pairs-law (o .patterns) (pairs-less (omega arith) (q .patterns)) u₁ u₂ qs (f₁ .sound) e₁ a₂ in
             let e₂ : Extends T u₂ = extends-more e₁ (f₂ .grown) in
-            let f₃ : Optional (optionM gm (optional (getD (rowAt T s) 6 0))) u₂ u₃ a = optional-law (getD (rowAt T s) 6 0) qa u₂ u₃ a (f₂ .sound) e₂ (subst (λ (x : List ℕ). optionally R eq find go (getD x 6 0) u₂ ≡ ok a u₃) (row-kept zT e₂ s i) a₃) in
+            let f₃ : Optional (optionM gm (optional (getD (rowAt T s) 6 0))) u₂ u₃ a = optional-law (getD (rowAt T s) 6 0) qa u₂ u₃ a (f₂ .sound) e₂ (subst (λ (x : List ℕ). optionally R eq find go (getD x 6 0) u₂ ≡ ok a u₃) (row-kept (zT .placed) e₂ s i) a₃) in
             let e₃ : Extends T u₃ = extends-more e₂ (f₃ .grown) in
-            let f₄ : Optional (optionM gm (optional (getD (rowAt T s) 12 0))) u₃ u₄ n = optional-law (getD (rowAt T s) 12 0) qn u₃ u₄ n (f₃ .sound) e₃ (subst (λ (x : List ℕ). optionally R eq find go (getD x 12 0) u₃ ≡ ok n u₄) (row-kept zT e₃ s i) a₄) in
+            let f₄ : Optional (optionM gm (optional (getD (rowAt T s) 12 0))) u₃ u₄ n = optional-law (getD (rowAt T s) 12 0) qn u₃ u₄ n (f₃ .sound) e₃ (subst (λ (x : List ℕ). optionally R eq find go (getD x 12 0) u₃ ≡ ok n u₄) (row-kept (zT .placed) e₃ s i) a₄) in
             let e₄ : Extends T u₄ = extends-more e₃ (f₄ .grown) in
             let g₃ : Extends u₃ u₄ = f₄ .grown in
             let g₂ : Extends u₂ u₄ = extends-more (f₃ .grown) g₃ in
             let g₁ : Extends u₁ u₄ = extends-more (f₂ .grown) g₂ in
             let d = object-law R eq find roomy note-room (rowAt T s) (noteIn T (getD (rowAt T s) 1 0)) (slice (T .links) (getD (rowAt T s) 7 0) (getD (rowAt T s) 8 0)) ps qs a n u₄ r t′ (f₄ .sound)
             (λ w g. note-steady zT (extends-more e₄ g) s i) (λ w g. required-steady zT (extends-more e₄ g) s i o here)
-            (pairs-later g₁ (f₁ .news)) (pairs-later g₂ (f₂ .news)) (option-later g₃ (f₃ .new)) (f₄ .new) (subst (λ (x : List ℕ). rowObject R eq find roomy note-room x ps qs a n u₄ ≡ ok r t′) (row-kept zT e₄ s i) (sym (row-object R eq find roomy note-room s ps qs a n u₄) ∙ h)) in
+            (pairs-later g₁ (f₁ .news)) (pairs-later g₂ (f₂ .news)) (option-later g₃ (f₃ .new)) (f₄ .new) (subst (λ (x : List ℕ). rowObject R eq find roomy note-room x ps qs a n u₄ ≡ ok r t′) (row-kept (zT .placed) e₄ s i) (sym (row-object R eq find roomy note-room s ps qs a n u₄) ∙ h)) in
             record {
               grown = extends-more (f₁ .grown) (extends-more g₁ (d .grown));
               sound = d .sound;
@@ -549,7 +507,7 @@ module _ {N : Type 0} (B : Trees N) where
     compiled-step : (go : ℕ → Words → Result ℕ) (gm : ℕ → Option (View N)) → Good go gm → (s : ℕ) → s < count T → (t t′ : Words) (r : ℕ) → Sound t → Extends T t →
         compileShape R eq find go s t (look T s) (bases T s) ≡ ok r t′ → Done (meantShape B eq find (view B (look T)) gm s (look T s) (bases T s)) t t′ r
     unfolding look
-    compiled-step go gm good s i t t′ r z e h = cases go gm good s i t z e (raw T s) refl (subst (Reads T (rowAt T s)) (sym (raw-row T s)) (reads T (rowAt T s))) (zT .below s i) (bases T s) (zT .bases-below s i) t′ r h
+    compiled-step go gm good s i t t′ r z e h = cases go gm good s i t z e (raw T s) refl (subst (Reads T (rowAt T s)) (sym (raw-row T s)) (reads T (rowAt T s))) (zT .placed .below s i) (bases T s) (zT .placed .bases-below s i) t′ r h
 
     -- compile appends, and its record stands for what compiling means
     pub compiled : (k : ℕ) → Good (compileAt R eq find k) (meantAt B eq find T k)

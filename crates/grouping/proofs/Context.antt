@@ -10,9 +10,10 @@ use Rattle.schema.specs.Look.{Words, look, bases}
 use Rattle.merge.specs.Merge.{Gathered, start, add, gather, derive, merge, empty}
 use Rattle.compilation.specs.Compile.{objectsOf}
 use Rattle.grouping.specs.Record.{count}
-use Rattle.grouping.specs.Tree.{Trees, View, mapList, flatList, mapOption, mapPair, mapNames, whole, readObject, readShape, openAll, openAny, viewBody, view, Every, nil, one, EveryPair, nilPair, onePair, Perhaps, absent, present, PerhapsEvery, absents, presents, NamesIn, inNone, inDetects, inNamed, ObjectIn, Children, inAny, inAll, inArray, inObject}
+use Rattle.grouping.specs.Tree.{Trees, View, mapList, flatList, mapOption, mapPair, mapNames, whole, readObject, readShape, openAll, openAny, viewBody, view, Every, nil, one, EveryPair, nilPair, onePair, Perhaps, absent, present, PerhapsEvery, absents, presents, NamesIn, inNone, inDetects, inNamed, ObjectIn, Children, inAny, inAll, inArray}
 use Rattle.grouping.specs.Meant.{bind, eachM, eachPairM, optionM, onePart, oneName, selfView, shapeOfView, closed, namesFrom, objectFrom, mergeM, eagerlyM, meantShape, meantAt, meantOf}
 use Rattle.grouping.specs.Regrouped.{Parts, noParts, parts, Namings, noNames, detected, namings, Kin, Runs, done, base, run, BasesKin, noBases, runs, Related, plains, anys, alls, arrays, objects, refs, Regrouped, Each, stop, also, Maybe, neither, both as bothOf, Pairs, endPairs, pair}
+use Rattle.grouping.proofs.Shapes.{children-object}
 use Rattle.grouping.proofs.Reading.{view-is}
 use Rattle.grouping.proofs.Growing.{Sound}
 use Rattle.grouping.proofs.Frame.{ordered}
@@ -109,9 +110,6 @@ inAll-of (inAll q) = q
 inArray-of : {P : ℕ → Type 0} {w : Own} {x : Option ℕ} → Children P (array w x) → Perhaps P x
 inArray-of (inArray q) = q
 
-inObject-of : {P : ℕ → Type 0} {o : Object ℕ} → Children P (object o) → ObjectIn P o
-inObject-of (inObject q) = q
-
 -- where both are there, they are the same
 pub data Compat {A : Type 0} : Option A → Option A → Type 0 where
   left : {y : Option A} → Compat none y
@@ -166,7 +164,7 @@ module _ {N : Type 0} (B : Trees N) (T T′ : Words) (z : Sound T) (z′ : Sound
   body-kin s s′ (anys note xs ys e e′ q) c h = rw (e, e′) (any-kin B {P = λ x. x < s} _ _ h note q (inAny-of (subst (Children (λ x. x < s)) e c)))
   body-kin s s′ (alls note xs ys e e′ q) c h = rw (e, e′) (all-kin B {P = λ x. x < s} _ _ h note q (inAll-of (subst (Children (λ x. x < s)) e c)))
   body-kin s s′ (arrays w x y e e′ q) c h = rw (e, e′) (array-kin B {P = λ x. x < s} _ _ h w q (inArray-of (subst (Children (λ x. x < s)) e c)))
-  body-kin s s′ (objects o p e e′ k b) c h = rw (e, e′) (objects-kin B {P = λ x. x < s} _ _ h k (inObject-of (subst (Children (λ x. x < s)) e c)))
+  body-kin s s′ (objects o p e e′ k b) c h = rw (e, e′) (objects-kin B {P = λ x. x < s} _ _ h k (children-object (subst (Children (λ x. x < s)) e c)))
   body-kin s s′ (refs note t b e e′) c h = rw (e, e′) (ref-kin B {P = λ x. x < s} _ _ h note t b)
 
   view-kin-below : (f s s′ : ℕ) → s < f → Q s s′ → view B (look T) s ≡ view B (look T′) s′
@@ -278,7 +276,7 @@ module _ {N : Type 0} (B : Trees N) (T T′ : Words) (z : Sound T) (z′ : Sound
       object-step j s s′ q o p e kin (runs {bs = bs} {bs′ = bs′} r) =
           rw (shape-bases find T (meantAt B eq find T k) s o bs, shape-bases find′ T′ (meantAt B eq find′ T′ j) s′ p bs′)
           (merge-compat _ _ (together j r)
-          (object-kin B {P = λ x. x < s} _ _ (λ x y r i. view-kin x y r) kin (inObject-of (subst (Children (λ x. x < s)) e (ordered z s (K .within s s′ q))))))
+          (object-kin B {P = λ x. x < s} _ _ (λ x y r i. view-kin x y r) kin (children-object (subst (Children (λ x. x < s)) e (ordered z s (K .within s s′ q))))))
 
       step : (j s s′ : ℕ) → Q s s′ → Related T T′ Q s s′ →
           Compat (meantShape B eq find (view B (look T)) (meantAt B eq find T k) s (look T s) (bases T s)) (meantShape B eq find′ (view B (look T′)) (meantAt B eq find′ T′ j) s′ (look T′ s′) (bases T′ s′))

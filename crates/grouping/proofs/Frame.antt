@@ -12,7 +12,8 @@ use Rattle.grouping.specs.Tree.{Trees, viewBody, viewAt, view, nil, one,
 use Rattle.grouping.proofs.Reading.{view-same, view-is}
 use Rattle.grouping.proofs.Growing.{Extends, Sound}
 
-sort-names : {P : ℕ → Type 0} (d : ℕ → Bool) {x : Names ℕ} → NamesIn P x → NamesIn P (sortNames d x)
+-- names that are sorted again name what they named
+pub sort-names : {P : ℕ → Type 0} (d : ℕ → Bool) {x : Names ℕ} → NamesIn P x → NamesIn P (sortNames d x)
 unfolding sortNames
 sort-names d inNone = inNone
 sort-names d (inDetects p) = inDetects p
@@ -54,13 +55,13 @@ sort-same d e h inRef = refl
 
 pub ordered : {t : Words} → Sound t → Ordered (look t) (count t)
 unfolding look
-ordered z s i = sort-children _ (z .below s i)
+ordered z s i = sort-children _ (z .placed .below s i)
 
 pub look-kept : {t u : Words} → Sound t → Extends t u → (s : ℕ) → s < count t → look u s ≡ look t s
 unfolding look
 look-kept {t} {u} z e s i =
     ap (sortShape (λ n. detecting (raw u n))) (z .steady s i u e) ∙
-    sort-same (λ n. detecting (raw u n)) (λ n. detecting (raw t n)) (λ x p. ap detecting (z .steady x (omega arith) u e)) (z .below s i)
+    sort-same (λ n. detecting (raw u n)) (λ n. detecting (raw t n)) (λ x p. ap detecting (z .steady x (omega arith) u e)) (z .placed .below s i)
 
 module _ {N : Type 0} (B : Trees N) where
   viewAt-kept : {t u : Words} → Sound t → Extends t u → (f s : ℕ) → s < count t → viewAt B (look u) f s ≡ viewAt B (look t) f s

@@ -4,16 +4,15 @@
 --     bases-may-be-grouped            for the object whose list it is
 --     bases-may-be-grouped-anywhere   for a schema that holds such objects anywhere, also behind the registry
 -- Assumes nothing.
-use Prim.Native.Nat.{ℕ, _≤_, _<_}
+use Prim.Native.Nat.{ℕ, _<_}
 use mathlib.Core.Path.{_≡_, refl, sym, ap, ap₂, subst, _∙_}
 use mathlib.Core.List.{List}
 use mathlib.Core.Option.{Option}
-use native.Mathlib.Omega.{arith}
 use Rattle.text.specs.Text.{textOf, sameBytes, sameText}
 use Rattle.text.proofs.Bytes.{same-text-bytes, same-text-sound, same-text-number, same-text-sym}
 use Rattle.error.specs.declared.Mode.{Mode}
 use Rattle.error.specs.Paths.{levels}
-use Rattle.layout.specs.Layout.{Tables, NONE, schemaCount}
+use Rattle.layout.specs.Layout.{Tables, schemaCount}
 use Rattle.lookup.specs.Lookup.{answerOfPattern, findIn}
 use Rattle.tables.specs.declared.check.Fault.the-variants.{Sound}
 use Rattle.tables.specs.Check.{tablesFault}
@@ -30,7 +29,7 @@ use Rattle.grouping.specs.Values.{SameValues, withSchemas, grown}
 use Rattle.grouping.specs.Regrouped.{Grouped, Regrouped}
 use Rattle.grouping.specs.Demand.{opened, Limited, compiling, SameSchema}
 use Rattle.grouping.proofs.Merging.{Keys}
-use Rattle.grouping.proofs.Growing.{Extends}
+use Rattle.grouping.proofs.Growing.{Extends, limit, limit-notes}
 use Rattle.grouping.proofs.Opened.{self}
 use Rattle.grouping.proofs.Quietly.{quiet-nodes}
 use Rattle.grouping.proofs.SameNodes.{same-values}
@@ -73,12 +72,6 @@ find-same T t U registry = refl
 tree-is : (T : Tables) (U : Words) (registry : List ℕ) → treeIn trees U ≡ opened (withSchemas T U registry)
 unfolding opened
 tree-is T U registry = refl
-
-limit : {n : ℕ} → n ≤ 4096 → n < NONE
-limit h = omega arith
-
-limit-notes : {n : ℕ} → n ≤ 1024 → n < NONE
-limit-notes h = omega arith
 
 -- what was proved of trees and nodes, said of tables
 said : (T : Tables) (U U′ : Words) (registry registry′ : List ℕ) (find find′ : ℕ → Option ℕ) → find ≡ findIn (withSchemas T U registry) → find′ ≡ findIn (withSchemas T U′ registry′) →

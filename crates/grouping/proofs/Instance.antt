@@ -10,6 +10,7 @@ use Rattle.schema.specs.Look.{Words, look}
 use Rattle.grouping.specs.Record.{count}
 use Rattle.grouping.specs.Tree.{Every, nil, one, EveryPair, nilPair, onePair, Perhaps, absent, present, PerhapsEvery, absents, presents, NamesIn, inNone, inDetects, inNamed, ObjectIn, Children, inPlain, inAny, inAll, inArray, inObject, inRef}
 use Rattle.grouping.specs.Regrouped.{Grouped, Each, stop, also, Maybe, neither, both, Pairs, endPairs, pair, Parts, noParts, parts, Namings, noNames, detected, namings, Kin, Runs, done, base, run, BasesKin, noBases, runs, Related, plains, anys, alls, arrays, objects, refs, Regrouped}
+use Rattle.grouping.proofs.Shapes.{children-object}
 use Rattle.grouping.proofs.Growing.{Sound}
 use Rattle.grouping.proofs.Frame.{ordered}
 
@@ -60,7 +61,7 @@ module _ (T : Words) (z : Sound T) (d d′ : ℕ) where
   related-self s i (anyOf note xs) e (inAny q) = anys note xs xs e e (each-self (omega arith) q)
   related-self s i (allOf note xs) e (inAll q) = alls note xs xs e e (each-self (omega arith) q)
   related-self s i (array w x) e (inArray q) = arrays w x x e e (option-self (omega arith) q)
-  related-self s i (object o) e (inObject q) = objects o o e e (kin-self {n = s} (omega arith) q) (bases-self (omega arith) (z .bases-below s i))
+  related-self s i (object o) e (inObject q) = objects o o e e (kin-self {n = s} (omega arith) q) (bases-self (omega arith) (z .placed .bases-below s i))
   related-self s i (ref note t b) e inRef = refs note t b e e
 
   module _ (e : ℕ) (w : Grouped T d d′ e) (i : d < count T) (i′ : d′ < count T) where
@@ -79,14 +80,11 @@ module _ (T : Words) (z : Sound T) (d d′ : ℕ) where
     inside : {P : ℕ → Type 0} {xs : List ℕ} → PerhapsEvery P (some xs) → Every P xs
     inside (presents q) = q
 
-    of-object : {P : ℕ → Type 0} {p : Object ℕ} → Children P (object p) → ObjectIn P p
-    of-object (inObject q) = q
-
     swapped : Related T T For d d′
     swapped =
-        let q : Every (λ x. x < d) (w .before ++ (w .run ++ w .after)) = inside (subst (PerhapsEvery (λ x. x < d)) (w .flat-bases) (z .bases-below d i)) in
+        let q : Every (λ x. x < d) (w .before ++ (w .run ++ w .after)) = inside (subst (PerhapsEvery (λ x. x < d)) (w .flat-bases) (z .placed .bases-below d i)) in
         let q₂ : Every (λ x. x < d) (w .run ++ w .after) = right-part (w .before) (w .run ++ w .after) q in
-        objects (w .own) (w .own) (w .flat) (w .nested) (kin-self {n = d} (omega arith) (of-object (subst (Children (λ x. x < d)) (w .flat) (ordered z d i))))
+        objects (w .own) (w .own) (w .flat) (w .nested) (kin-self {n = d} (omega arith) (children-object (subst (Children (λ x. x < d)) (w .flat) (ordered z d i))))
         (rw (w .flat-bases, w .nested-bases) (runs (split {n = d} (omega arith) (w .before) q
         (run (w .wrapper) (w .wrapper-bases) (runs-self {n = d} (omega arith) (left-part (w .run) (w .after) q₂)) (runs-self {n = d} (omega arith) (right-part (w .run) (w .after) q₂))))))
 

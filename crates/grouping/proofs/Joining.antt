@@ -1,23 +1,22 @@
 -- What appending a merged object leaves. Assumes nothing.
-use Prim.Native.Nat.{ℕ, _+_, _/_, _<_}
+use Prim.Native.Nat.{ℕ, _/_, _<_}
 use mathlib.Core.Path.{_≡_, refl, _∙_}
-use mathlib.Core.Bool.{Bool, true, false}
+use mathlib.Core.Bool.{Bool}
 use mathlib.Core.List.{List, [], _∷_, append-assoc}
 use mathlib.Core.Option.{Option, some, none}
 use native.Mathlib.Omega.{arith}
 use lib.ListN.{length}
-use lib.Dec.{eqb, leb}
-use borrow.Author.Tests.{ne-eqb, leb-true}
+use borrow.Author.Tests.{ne-eqb}
 use Rattle.text.specs.Choice.{pick}
-use Rattle.layout.specs.Layout.{NONE}
+use Rattle.layout.specs.Layout.{NONE, noteCount}
 use Rattle.schema.specs.Shape.{Note, Object, Shape, anyOf, allOf, object}
 use Rattle.schema.specs.Look.{Words, noteAt, slice, optional, raw}
 use Rattle.merge.specs.Pairs.{pairsAt, flatPairs}
-use Rattle.compilation.specs.Compile.{Result, ok, refuse, then, Room, withNotes, withRow, withLinks, addRow, joinLinks, joinRow, noteWordsOf, addMerged}
+use Rattle.compilation.specs.Compile.{Result, ok, then, Room, withNotes, withRow, withLinks, addRow, joinLinks, joinRow, noteWordsOf, addMerged}
 use Rattle.grouping.specs.Record.{noteOfRow, noteIn, count}
 use Rattle.grouping.specs.Tree.{one, EveryPair, Perhaps, absent, present, PerhapsEvery, presents}
 use Rattle.grouping.proofs.Rowed.{note-row}
-use Rattle.grouping.proofs.Growing.{Extends, extends-self, extends-more, extends-links, extends-notes, Sound, sound-links, sound-note, Added, row-step, links-step, note-step, links-read, pairs-read, count-grows, slice-new, pairs-later, perhaps-later}
+use Rattle.grouping.proofs.Growing.{Extends, extends-self, extends-more, extends-links, extends-notes, Sound, sound-links, sound-note, Added, links-step, note-step, row-step, last-row, links-read, pairs-read, count-grows, slice-new, pairs-later, perhaps-later}
 use Rattle.layout.specs.Rows.{listRow}
 use Rattle.grouping.proofs.Adding.{any-at, all-at, later-added, object-at, objectWords}
 
@@ -49,8 +48,8 @@ joined-later {u} {w} z e (jMany {j = j} i r) = jMany {j = j} (omega (arith, coun
 
 pub joined-in : {u : Words} {shape : List ℕ → Shape ℕ} {x : Option (List ℕ)} {j : ℕ} → Sound u → Joined u shape x j → Perhaps (λ y. y < count u) (optional j)
 joined-in z jNone = absent
-joined-in z (jOne {x = x} i) = rw (ne-eqb x NONE (λ e. omega (arith, z .few))) (present i)
-joined-in z (jMany {j = j} i r) = rw (ne-eqb j NONE (λ e. omega (arith, z .few))) (present i)
+joined-in z (jOne {x = x} i) = rw (ne-eqb x NONE (λ e. omega (arith, z .placed .few))) (present i)
+joined-in z (jMany {j = j} i r) = rw (ne-eqb j NONE (λ e. omega (arith, z .placed .few))) (present i)
 
 module _ (R : Room) (eq : ℕ → ℕ → Bool) (find : ℕ → Option ℕ) (roomy : R .schemas < NONE) (note-room : R .notes < NONE) where
   record LinkStep {B : Type 0} (x : Option (List ℕ)) (t : Words) (f : ℕ → Words → Result B) (b : B) (t′ : Words) : Type 0 where
@@ -71,7 +70,7 @@ module _ (R : Room) (eq : ℕ → ℕ → Bool) (find : ℕ → Option ℕ) (roo
         grown = extends-links t (x ∷ (y ∷ ys));
         sound = sound-links {t = t} (x ∷ (y ∷ ys)) z;
         linked = lMany (λ w g. links-read t (x ∷ (y ∷ ys)) g);
-        rest = links-step R eq find (x ∷ (y ∷ ys)) t f b t′ e;
+        rest = links-step R eq find (x ∷ (y ∷ ys)) t f b t′ e .1;
       }
 
   record RowStep {B : Type 0} (shape : List ℕ → Shape ℕ) (x : Option (List ℕ)) (t : Words) (f : ℕ → Words → Result B) (b : B) (t′ : Words) : Type 0 where
@@ -86,43 +85,30 @@ module _ (R : Room) (eq : ℕ → ℕ → Bool) (find : ℕ → Option ℕ) (roo
   unfolding noteAt
   noteless u = refl
 
-  then-row : {B : Type 0} (P : ℕ → Words → Type 0) (row : List ℕ) (t : Words) (f : ℕ → Words → Result B) (b : B) (t′ : Words) → (count t + 1 < NONE → f (count t) (withRow t row) ≡ ok b t′ → P 0 t) →
-      then (addRow R eq find row t) f ≡ ok b t′ → P 0 t
-  unfolding addRow
-  then-row P row t f b t′ k = go (leb (count t + 1) (R .schemas)) refl
-    where
-      go : (c : Bool) → leb (count t + 1) (R .schemas) ≡ c → then (pick c (ok (count t) (withRow t row)) (refuse 33)) f ≡ ok b t′ → P 0 t
-      go true h e = k (omega (arith, leb-true (count t + 1) (R .schemas) h)) e
-      go false h e = absurd (let q : _≡_ {A = ℕ} 0 1 = cc in omega arith)
-
   join-all : {B : Type 0} (x : Option (List ℕ)) (at : ℕ) (t : Words) (f : ℕ → Words → Result B) (b : B) (t′ : Words) → Sound t → Filled x → Linked t at x → PerhapsEvery (λ y. y < count t) x →
       then (joinRow R eq find 8 at x t) f ≡ ok b t′ → RowStep (allOf none) x t f b t′
   join-all none at t f b t′ z noList lNone q e = record { word = NONE; words = t; grown = extends-self t; sound = z; joined = jNone; rest = e }
   join-all (some (x ∷ [])) at t f b t′ z aList lOne (presents (one p q)) e = record { word = x; words = t; grown = extends-self t; sound = z; joined = jOne p; rest = e }
   join-all (some (x ∷ (y ∷ ys))) at t f b t′ z aList (lMany h) (presents q) e =
-      then-row (λ _ _. RowStep (allOf none) (some (x ∷ (y ∷ ys))) t f b t′) (listRow 8 NONE at (length (x ∷ (y ∷ ys)))) t f b t′
-      (λ few r. let a = all-at R eq find roomy note-room NONE none (x ∷ (y ∷ ys)) at t z (λ u g. noteless u) h q few in
-      record { word = count t; words = withRow t (listRow 8 NONE at (length (x ∷ (y ∷ ys)))); grown = a .grown; sound = a .sound; joined = jMany (a .new) (a .is); rest = r }) e
+      let s = row-step R eq find (listRow 8 NONE at (length (x ∷ (y ∷ ys)))) t f b t′ e in
+      let a = all-at R eq find roomy note-room NONE none (x ∷ (y ∷ ys)) at t z (λ u g. noteless u) h q (omega (arith, s .0)) in
+      record { word = count t; words = withRow t (listRow 8 NONE at (length (x ∷ (y ∷ ys)))); grown = a .grown; sound = a .sound; joined = jMany (a .new) (a .is); rest = s .1 }
 
   join-any : {B : Type 0} (x : Option (List ℕ)) (at : ℕ) (t : Words) (f : ℕ → Words → Result B) (b : B) (t′ : Words) → Sound t → Filled x → Linked t at x → PerhapsEvery (λ y. y < count t) x →
       then (joinRow R eq find 7 at x t) f ≡ ok b t′ → RowStep (anyOf none) x t f b t′
   join-any none at t f b t′ z noList lNone q e = record { word = NONE; words = t; grown = extends-self t; sound = z; joined = jNone; rest = e }
   join-any (some (x ∷ [])) at t f b t′ z aList lOne (presents (one p q)) e = record { word = x; words = t; grown = extends-self t; sound = z; joined = jOne p; rest = e }
   join-any (some (x ∷ (y ∷ ys))) at t f b t′ z aList (lMany h) (presents q) e =
-      then-row (λ _ _. RowStep (anyOf none) (some (x ∷ (y ∷ ys))) t f b t′) (listRow 7 NONE at (length (x ∷ (y ∷ ys)))) t f b t′
-      (λ few r. let a = any-at R eq find roomy note-room NONE none (x ∷ (y ∷ ys)) at t z (λ u g. noteless u) h q few in
-      record { word = count t; words = withRow t (listRow 7 NONE at (length (x ∷ (y ∷ ys)))); grown = a .grown; sound = a .sound; joined = jMany (a .new) (a .is); rest = r }) e
+      let s = row-step R eq find (listRow 7 NONE at (length (x ∷ (y ∷ ys)))) t f b t′ e in
+      let a = any-at R eq find roomy note-room NONE none (x ∷ (y ∷ ys)) at t z (λ u g. noteless u) h q (omega (arith, s .0)) in
+      record { word = count t; words = withRow t (listRow 7 NONE at (length (x ∷ (y ∷ ys)))); grown = a .grown; sound = a .sound; joined = jMany (a .new) (a .is); rest = s .1 }
 
   -- a new note is read back
   note-read : (t u : Words) (x : Note) → Sound t → Extends (withNotes t (noteWordsOf x)) u → noteIn u (length (t .notes) / 9) ≡ some x
   unfolding noteOfRow
   note-read t u x z e =
       note-row (u .notes) (length (t .notes) / 9) ∙
-      rw (ne-eqb (length (t .notes) / 9) NONE (λ q. omega (arith, z .few-notes)), e .notes-are, append-assoc (t .notes) (noteWordsOf x) (e .notes), z .note-rows, slice-new (t .notes) (noteWordsOf x) (e .notes))
-
-  closed-word : (b : Bool) → eqb (pick b 1 0) 1 ≡ b
-  closed-word true = refl
-  closed-word false = refl
+      rw (ne-eqb (length (t .notes) / 9) NONE (λ q. omega (arith, z .placed .few-notes)), e .notes-are, append-assoc (t .notes) (noteWordsOf x) (e .notes), z .placed .note-rows, slice-new (t .notes) (noteWordsOf x) (e .notes))
 
   -- a merged object stands there, its joins as words
   pub record MergeAdded (ν : Note) (names : Option (List ℕ)) (o : Object ℕ) (t t′ : Words) (r : ℕ) : Type 0 where
@@ -151,10 +137,10 @@ module _ (R : Room) (eq : ℕ → ℕ → Bool) (find : ℕ → Option ℕ) (roo
         let s₈ = join-any names (s₆ .at) (s₇ .words) _ r t′ (s₇ .sound) fn (linked-later (s₇ .grown) (s₆ .linked)) (perhaps-later on₇ en) (s₇ .rest) in
         let on₈ : Extends t₄ (s₈ .words) = extends-more on₇ (s₈ .grown) in
         let j₇ : Joined (s₈ .words) (allOf none) (o .additional) (s₇ .word) = joined-later (s₇ .sound) (s₈ .grown) (s₇ .joined) in
-        row-step R eq find (λ r t′. MergeAdded ν names o t t′ r) (finalRow nu p q rq (s₇ .word) (s₈ .word)) (s₈ .words) r t′ roomy
-        (λ few. let a = object-at R eq find roomy note-room nu p q (s₇ .word) rq (length (o .required)) (o .least) (o .most) (pick (o .closed) 1 0) (s₈ .word) (o .naming) (some ν) (o .props) (o .patterns) (o .required) (s₈ .words) (s₈ .sound)
+        last-row R eq find (λ r t′. MergeAdded ν names o t t′ r) (finalRow nu p q rq (s₇ .word) (s₈ .word)) (s₈ .words) r t′
+        (λ room. let a = object-at R eq find roomy note-room nu p q (s₇ .word) rq (length (o .required)) (o .least) (o .most) (pick (o .closed) 1 0) (s₈ .word) (o .naming) (some ν) (o .props) (o .patterns) (o .required) (s₈ .words) (s₈ .sound)
         (λ u f. noted u (extends-more on₈ f)) (λ u f. propped u (extends-more on₈ f)) (λ u f. patterned u (extends-more on₈ f)) (λ u f. requires u (extends-more on₈ f))
-        (pairs-later on₈ eps) (pairs-later on₈ eqs) (joined-in (s₈ .sound) j₇) (joined-in (s₈ .sound) (s₈ .joined)) few in
+        (pairs-later on₈ eps) (pairs-later on₈ eqs) (joined-in (s₈ .sound) j₇) (joined-in (s₈ .sound) (s₈ .joined)) (omega (arith, room)) in
         record {
           extra = s₇ .word;
           naming = s₈ .word;
@@ -167,14 +153,14 @@ module _ (R : Room) (eq : ℕ → ℕ → Bool) (find : ℕ → Option ℕ) (roo
     pub merged-law : (t : Words) (r : ℕ) (t′ : Words) → Sound t →
         EveryPair (λ x. x < count t) (o .props) → EveryPair (λ x. x < count t) (o .patterns) → PerhapsEvery (λ x. x < count t) (o .additional) → PerhapsEvery (λ x. x < count t) names →
         addMerged R eq find ν names o t ≡ ok r t′ → MergeAdded ν names o t t′ r
-    unfolding addMerged
+    unfolding addMerged noteCount
     merged-law t r t′ z eps eqs ea en e =
-        let n = note-step R eq find (noteWordsOf ν) t _ r t′ note-room e in
+        let n = note-step R eq find (noteWordsOf ν) t _ r t′ e in
         let t₁ : Words = withNotes t (noteWordsOf ν) in
         let t₂ : Words = withLinks t₁ (flatPairs (o .props)) in
         let t₃ : Words = withLinks t₂ (flatPairs (o .patterns)) in
         let t₄ : Words = withLinks t₃ (o .required) in
-        let z₁ : Sound t₁ = sound-note {t = t} (noteWordsOf ν) z refl (n .0) in
+        let z₁ : Sound t₁ = sound-note {t = t} (noteWordsOf ν) z refl (omega (arith, n .0)) in
         let z₂ : Sound t₂ = sound-links {t = t₁} (flatPairs (o .props)) z₁ in
         let z₃ : Sound t₃ = sound-links {t = t₂} (flatPairs (o .patterns)) z₂ in
         let z₄ : Sound t₄ = sound-links {t = t₃} (o .required) z₃ in
@@ -185,4 +171,4 @@ module _ (R : Room) (eq : ℕ → ℕ → Bool) (find : ℕ → Option ℕ) (roo
         finish t t₄ r t′ (length (t .notes) / 9) (length (t₁ .links)) (length (t₂ .links)) (length (t₃ .links)) z₄ (extends-more (extends-notes t (noteWordsOf ν)) after₁)
         (λ u f. note-read t u ν z (extends-more after₁ f)) (λ u f. pairs-read t₁ (o .props) (extends-more after₂ f)) (λ u f. pairs-read t₂ (o .patterns) (extends-more on₄ f)) (λ u f. links-read t₃ (o .required) f)
         eps eqs ea en
-        (links-step R eq find (o .required) t₃ _ r t′ (links-step R eq find (flatPairs (o .patterns)) t₂ _ r t′ (links-step R eq find (flatPairs (o .props)) t₁ _ r t′ (n .1))))
+        (links-step R eq find (o .required) t₃ _ r t′ (links-step R eq find (flatPairs (o .patterns)) t₂ _ r t′ (links-step R eq find (flatPairs (o .props)) t₁ _ r t′ (n .1) .1) .1) .1)

@@ -1,22 +1,21 @@
 -- Raising the level count changes no answer other than 23. Assumes nothing.
 use Prim.Native.Nat.{ℕ, zero, suc, _≤_}
-use mathlib.Core.Path.{_≡_, refl, ap, ap₂, subst}
+use mathlib.Core.Path.{_≡_, refl, ap, subst}
 use mathlib.Core.Bool.{Bool, true, false}
 use mathlib.Core.List.{List, [], _∷_}
 use mathlib.Core.Option.{Option, some, none}
 use Rattle.error.specs.declared.Mode.{Mode}
-use Rattle.error.specs.declared.Detail.the-variants.{Property}
 use Rattle.layout.specs.Layout.{Tables}
 use Rattle.lookup.specs.Lookup.{answerOfPattern, findIn}
-use Rattle.schema.specs.Shape.{Note, Pair, Object, Shape, plain, anyOf, allOf, array, object, ref}
+use Rattle.schema.specs.Shape.{Pair, Object, Shape, plain, anyOf, allOf, array, object, ref}
 use Rattle.schema.specs.Look.{wordsOf, look}
 use Rattle.validator.specs.Outcome.{Error, Outcome, refused, ended, made, kinded, placed}
-use Rattle.validator.specs.Visit.{Nodes, numberOr, visitAt}
+use Rattle.validator.specs.Visit.{Nodes, visitAt}
 use Rattle.validator.specs.Nodes.{nodesOf}
 use Rattle.validator.specs.Validate.{visitOf}
 use Rattle.grouping.specs.Regrouped.{Each, stop, also, Maybe, neither, both, Pairs, endPairs, pair}
 use Rattle.grouping.proofs.Simulation.{Erasure, Below, deep, accepts, refuses, invalids, ends, Opens, shut, keep, Extra, noExtra, extra, ObjectAlike, Alike, plains, anys, alls, arrays, objects, refs, Simulates, simulation}
-use Rattle.grouping.proofs.Opened.{Any, any-quiet, self}
+use Rattle.grouping.proofs.Opened.{Any, any-quiet, self, lacking}
 
 exactly : Erasure Error Any
 exactly = record { er = λ e. e; er′ = λ e. e; kind = λ k x y p. ap (kinded k) p; place = λ s x y p. ap (placed s) p; key = λ t. tt; reference = λ t. tt }
@@ -57,12 +56,6 @@ module _ (look : ℕ → Shape ℕ) (find : ℕ → Option ℕ) where
   alike (object o) = objects (record { note = refl; props = pairs (o .props); additional = extras (o .additional); required = refl; least = refl; most = refl; closed = refl })
   alike (ref note t b) = refs
 
-  lacking : (D : Nodes) {s u : ℕ} {a b : Option ℕ} → Is s u → Maybe Is a b → (k t : ℕ) (note : Option Note) →
-      made 2 k (self s) note (Property t (numberOr D self a)) ≡ made 2 k (self u) note (Property t (numberOr D self b))
-  unfolding Is
-  lacking D r neither k t note = ap (λ (x : ℕ). made 2 k x note (Property t (numberOr D self none))) r
-  lacking D r (both q) k t note = ap₂ (λ (x y : ℕ). made 2 k x note (Property t y)) r q
-
   stepping : {s u : ℕ} → Is s u → Alike exactly Is look (look s) (look u)
   unfolding Is
   stepping {s} {u} r = subst (λ (x : ℕ). Alike exactly Is look (look s) (look x)) r (alike (look s))
@@ -72,7 +65,7 @@ module _ (look : ℕ → Shape ℕ) (find : ℕ → Option ℕ) where
   simulates =
       record {
         tells = λ r k m note d q. ap (λ (x : ℕ). made k m x note d) r;
-        lacks = λ D r q k t note. lacking D r q k t note;
+        lacks = λ D r q k t note. lacking (λ s u i. i) D r q k t note;
         step = λ r. stepping r;
         found = λ t. option (find t);
       }

@@ -1,3 +1,4 @@
+pub mod Shapes
 pub mod Rowed
 pub mod Merging
 pub mod Reading
@@ -27,4 +28,3 @@ pub mod Example
 pub mod Applied
 pub mod Sources
 pub mod Calls
-pub mod Used

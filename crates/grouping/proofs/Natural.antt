@@ -7,7 +7,8 @@ use mathlib.Core.Option.{Option, some, none}
 use Rattle.text.specs.Choice.{pick}
 use Rattle.schema.specs.Shape.{Pair, Names, nameless, detects, named, Object}
 use Rattle.merge.specs.Merge.{kept, over, noteOf, put, putAll, _⊕_, counting, naming, Gathered, start, add, gather, derive, merge}
-use Rattle.grouping.specs.Tree.{mapList, flatList, mapOption, mapPair, mapNames, mapObject, Every, nil, one, EveryPair, nilPair, onePair, PerhapsEvery, absents, presents, NamesIn, inNone, inDetects, inNamed, ObjectIn}
+use Rattle.grouping.specs.Tree.{mapList, flatList, mapOption, mapPair, mapNames, mapObject, EveryPair, nilPair, onePair, PerhapsEvery, absents, presents, NamesIn, inNone, inDetects, inNamed, ObjectIn}
+use Rattle.grouping.proofs.Shapes.{append-in}
 use Rattle.grouping.proofs.Joining.{Filled, noList, aList}
 
 module _ {A B : Type 0} (eq : ℕ → ℕ → Bool) (f : A → B) (g h : A → List B) where
@@ -134,10 +135,6 @@ module _ {P : ℕ → Type 0} (eq : ℕ → ℕ → Bool) where
   unfolding putAll
   putAll-in l [] a nilPair = a
   putAll-in l (x ∷ xs) a (onePair b bs) = putAll-in (put eq x l) xs (put-in x l b a) bs
-
-pub append-in : {P : ℕ → Type 0} {xs ys : List ℕ} → Every P xs → Every P ys → Every P (xs ++ ys)
-append-in nil b = b
-append-in (one p ps) b = one p (append-in ps b)
 
 pub join-in : {P : ℕ → Type 0} {x y : Option (List ℕ)} → PerhapsEvery P x → PerhapsEvery P y → PerhapsEvery P (x ⊕ y)
 join-in absents absents = absents

@@ -62,6 +62,12 @@ free′ x = free x
 abbrev pub self : ℕ → ℕ
 self s = s
 
+-- a missing entry is told alike where records that stand for one another are the same
+pub lacking : {R : ℕ → ℕ → Type 0} → ((s u : ℕ) → R s u → s ≡ u) → (D : Nodes) {s u : ℕ} {a b : Option ℕ} → R s u → Maybe R a b → (k t : ℕ) (note : Option Note) →
+    made 2 k (self s) note (Property t (numberOr D self a)) ≡ made 2 k (self u) note (Property t (numberOr D self b))
+lacking is D r neither k t note = ap (λ (x : ℕ). made 2 k x note (Property t (numberOr D self none))) (is _ _ r)
+lacking is D r (both q) k t note = ap₂ (λ (x y : ℕ). made 2 k x note (Property t y)) (is _ _ r) (is _ _ q)
+
 module _ (look : ℕ → Shape ℕ) (n : ℕ) (O : Ordered look n) where
   record Is (s u : ℕ) : Type 0 where
     within : s < n
@@ -121,11 +127,6 @@ module _ (look : ℕ → Shape ℕ) (n : ℕ) (O : Ordered look n) where
   alike s le inRef = refs
 
   module _ (find : ℕ → Option ℕ) (known : (t : ℕ) → Perhaps (λ x. x < n) (find t)) where
-    lacking : (D : Nodes) {s u : ℕ} {a b : Option ℕ} → Is s u → Maybe Is a b → (k t : ℕ) (note : Option Note) →
-        stepless (made 2 k (self s) note (Property t (numberOr D self a))) ≡ stepless (made 2 k (self u) note (Property t (numberOr D self b)))
-    lacking D r neither k t note = ap (λ (x : ℕ). stepless (made 2 k x note (Property t (numberOr D self none)))) (r .is)
-    lacking D r (both q) k t note = ap₂ (λ (x y : ℕ). stepless (made 2 k x note (Property t y))) (r .is) (q .is)
-
     stepping : {s u : ℕ} → Is s u → Alike steplessly Is look (look s) (opened look u)
     unfolding opened
     stepping {s} {u} r = subst (λ (x : ℕ). Alike steplessly Is look (look s) (openedShape look (look x))) (r .is) (alike s (omega (arith, r .within)) (O s (r .within)))
@@ -134,7 +135,7 @@ module _ (look : ℕ → Shape ℕ) (n : ℕ) (O : Ordered look n) where
     unfolding steplessly
     simulates = record {
       tells = λ r k m note d q. ap (λ (x : ℕ). stepless (made k m x note d)) (r .is);
-      lacks = λ D r q k t note. lacking D r q k t note;
+      lacks = λ D r q k t note. ap stepless (lacking (λ s u i. i .is) D r q k t note);
       step = λ r. stepping r;
       found = λ t. option (omega arith) (known t);
     }

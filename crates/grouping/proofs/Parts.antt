@@ -7,6 +7,7 @@ use mathlib.Core.Option.{some, none}
 use native.Mathlib.Omega.{arith}
 use Rattle.schema.specs.Shape.{Object, Shape, plain, anyOf, allOf, array, object, ref}
 use Rattle.grouping.specs.Tree.{Trees, View, mapList, flatList, mapOption, whole, readShape, openAll, viewBody, view, Every, nil, one, Children, inPlain, inAny, inAll, inArray, inObject, inRef, Ordered}
+use Rattle.grouping.proofs.Shapes.{append-in}
 use Rattle.grouping.proofs.Reading.{flat-same, view-is}
 
 unfoldable pub partsOf : (ℕ → List ℕ) → ℕ → Shape ℕ → List ℕ
@@ -72,14 +73,10 @@ unfolding flatList
 map-flat f g h k nil = unfold mapList in refl
 map-flat f g h k (one {x = x} {xs = xs} p ps) = map-append f (g x) (flatList g xs) ∙ ap₂ (λ (a b : List _). a ++ b) (k x p) (map-flat f g h k ps)
 
-every-append : {P : ℕ → Type 0} {xs ys : List ℕ} → Every P xs → Every P ys → Every P (xs ++ ys)
-every-append nil b = b
-every-append (one p ps) b = one p (every-append ps b)
-
 pub every-flat : {P Q : ℕ → Type 0} (g : ℕ → List ℕ) → ((x : ℕ) → P x → Every Q (g x)) → {xs : List ℕ} → Every P xs → Every Q (flatList g xs)
 unfolding flatList
 every-flat g h nil = nil
-every-flat g h (one {x = x} p ps) = every-append (h x p) (every-flat g h ps)
+every-flat g h (one {x = x} p ps) = append-in (h x p) (every-flat g h ps)
 
 module _ (look : ℕ → Shape ℕ) (n : ℕ) (O : Ordered look n) where
   stable : (f g s : ℕ) → s < n → s < f → s < g → partsAt look f s ≡ partsAt look g s

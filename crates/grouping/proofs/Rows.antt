@@ -13,7 +13,8 @@ use Rattle.schema.specs.Shape.{Note, nameless, detects, named, Object, Shape, p
 use Rattle.schema.specs.Look.{Words, slice, optional, detecting, sortNames, sortObject, sortShape, raw, look}
 use Rattle.merge.specs.Merge.{counting}
 use Rattle.grouping.specs.Record.{rowAt, noteIn, ownOf, arrayOf, objectOf, shapeOf, count}
-use Rattle.grouping.specs.Tree.{nil, one, PerhapsEvery, absents, presents, Children, inObject, ObjectIn}
+use Rattle.grouping.specs.Tree.{nil, one, PerhapsEvery, absents, presents, Children, ObjectIn}
+use Rattle.grouping.proofs.Shapes.{object-is, children-object}
 use Rattle.grouping.proofs.Rowed.{raw-row}
 use Rattle.grouping.proofs.Growing.{Extends, Sound, row-kept}
 use Rattle.grouping.proofs.Joining.{Filled, noList, aList}
@@ -62,7 +63,7 @@ note-read rRef = refl
 
 pub note-steady : {t u : Words} → Sound t → Extends t u → (s : ℕ) → s < count t → noteIn u (getD (rowAt t s) 1 0) ≡ noteIn t (getD (rowAt t s) 1 0)
 note-steady {t} {u} z e s i =
-    ap (λ (r : List ℕ). noteIn u (getD r 1 0)) (sym (row-kept z e s i)) ∙
+    ap (λ (r : List ℕ). noteIn u (getD r 1 0)) (sym (row-kept (z .placed) e s i)) ∙
     (sym (note-read (reads u (rowAt u s))) ∙ (ap noteOfShape (sym (raw-row u s) ∙ (z .steady s i u e ∙ raw-row t s)) ∙ note-read (reads t (rowAt t s))))
 
 requiredOf : Shape ℕ → List ℕ
@@ -93,21 +94,9 @@ required-read rRef i = absurd i
 pub required-steady : {t u : Words} → Sound t → Extends t u → (s : ℕ) → s < count t → (o : Object ℕ) → raw t s ≡ object o →
     slice (u .links) (getD (rowAt t s) 7 0) (getD (rowAt t s) 8 0) ≡ slice (t .links) (getD (rowAt t s) 7 0) (getD (rowAt t s) 8 0)
 required-steady {t} {u} z e s i o q =
-    ap (λ (r : List ℕ). slice (u .links) (getD r 7 0) (getD r 8 0)) (sym (row-kept z e s i)) ∙
+    ap (λ (r : List ℕ). slice (u .links) (getD r 7 0) (getD r 8 0)) (sym (row-kept (z .placed) e s i)) ∙
     (sym (required-read (reads u (rowAt u s)) (subst IsObject (sym (sym (raw-row u s) ∙ (z .steady s i u e ∙ q))) tt)) ∙
     (ap requiredOf (sym (raw-row u s) ∙ (z .steady s i u e ∙ raw-row t s)) ∙ required-read (reads t (rowAt t s)) (subst IsObject (sym (sym (raw-row t s) ∙ q)) tt)))
-
-objectOr : {A : Type 0} → Object A → Shape A → Object A
-objectOr d (plain w) = d
-objectOr d (anyOf note xs) = d
-objectOr d (allOf note xs) = d
-objectOr d (array w x) = d
-objectOr d (object o) = o
-objectOr d (ref note t b) = d
-
-pub object-is : {A : Type 0} {o p : Object A} → object o ≡ object p → o ≡ p
-unfolding objectOr
-object-is {o} {p} e = ap (objectOr o) e
 
 -- an object of a table: at most one schema in additional and in names, and names that count do not detect
 module _ (t : Words) where
@@ -144,9 +133,6 @@ module _ (t : Words) where
     named-filled = names-filled (getD row 12 0) (eqb (getD row 12 0) NONE) _;
     names-too = names-plain (getD row 12 0) (eqb (getD row 12 0) NONE);
   }
-
-  children-object : {P : ℕ → Type 0} {o : Object ℕ} → Children P (object o) → ObjectIn P o
-  children-object (inObject q) = q
 
   tidy-shape : {P : ℕ → Type 0} {row : List ℕ} {sh : Shape ℕ} → Reads t row sh → (o : Object ℕ) → sortShape (λ n. detecting (raw t n)) sh ≡ object o → Children P (object o) → Tidy P Plain o
   unfolding sortShape

@@ -7,7 +7,7 @@ use mathlib.Core.Option.{Option, some, none}
 use native.Mathlib.Omega.{arith}
 use Rattle.text.specs.Text.{sameText}
 use Rattle.error.specs.Paths.{levels}
-use Rattle.layout.specs.Layout.{Tables, NONE, schemaCount}
+use Rattle.layout.specs.Layout.{Tables, schemaCount}
 use Rattle.lookup.specs.Lookup.{findIn}
 use Rattle.tables.specs.declared.check.Fault.the-variants.{Sound}
 use Rattle.tables.specs.Check.{tablesFault}
@@ -22,7 +22,7 @@ use Rattle.grouping.specs.Source.{Source, sRef, Sources, Fields, Item, J
 use Rattle.grouping.specs.Values.{grown}
 use Rattle.grouping.specs.Demand.{opened, Limited, compiling}
 use Rattle.grouping.proofs.Reading.{object-same, view-same, view-is}
-use Rattle.grouping.proofs.Growing.{Sound as Steady, extends-self}
+use Rattle.grouping.proofs.Growing.{Sound as Steady, extends-self, limit, limit-notes}
 use Rattle.grouping.proofs.Frame.{ordered}
 use Rattle.grouping.proofs.Compiled.{Done, compiled}
 use Rattle.grouping.proofs.WellFormed.{checked, names-known}
@@ -259,13 +259,13 @@ module _ (T : Words) (z : Steady T) where
   stable (suc f) zero s i a b = absurd (omega arith)
   stable (suc f) (suc g) s i a b =
       ap₂ sow (shape-same (sourceAt T f) (sourceAt T g) (λ x p. stable f g x (omega arith) (omega arith) (omega arith)) (ordered z s i))
-      (lists-same (sourceAt T f) (sourceAt T g) (λ x p. stable f g x (omega arith) (omega arith) (omega arith)) (z .bases-below s i))
+      (lists-same (sourceAt T f) (sourceAt T g) (λ x p. stable f g x (omega arith) (omega arith) (omega arith)) (z .placed .bases-below s i))
 
   source-is : (s : ℕ) → s < count T → S s ≡ sow (mapShape S (look T s)) (mapOption (mapList S) (bases T s))
   unfolding sourceOf sourceAt
   source-is s i =
       ap₂ sow (shape-same (sourceAt T s) S (λ x p. stable s (suc x) x (omega arith) (omega arith) (omega arith)) (ordered z s i))
-      (lists-same (sourceAt T s) S (λ x p. stable s (suc x) x (omega arith) (omega arith) (omega arith)) (z .bases-below s i))
+      (lists-same (sourceAt T s) S (λ x p. stable s (suc x) x (omega arith) (omega arith) (omega arith)) (z .placed .bases-below s i))
 
   stands-below : (f s : ℕ) → s < f → s < count T → stands (S s) ≡ view trees (look T) s
   stands-below zero s a i = absurd (omega arith)
@@ -355,7 +355,7 @@ module _ (T : Words) (z : Steady T) where
     meant-source (suc k) s i =
         let go′ = meantOf trees eq (λ t. mapOption S (find t)) stands see based k in
         ap (λ (sh : Shape Source). meantShape trees eq (λ t. mapOption S (find t)) stands go′ (S s) sh (based (S s))) (ap see (source-is s i) ∙ see-sow (mapShape S (look T s)) (mapOption (mapList S) (bases T s))) ∙
-        shape-source (meantAt trees eq find T k) go′ (λ x j. meant-source k x j) eq find known s i (ordered z s i) (based (S s)) (z .bases-below s i) (λ o e. bases-seen s i o e)
+        shape-source (meantAt trees eq find T k) go′ (λ x j. meant-source k x j) eq find known s i (ordered z s i) (based (S s)) (z .placed .bases-below s i) (λ o e. bases-seen s i o e)
 
 -- what compile's record stands for is what compiling the tree of its source gives
 pub compile-stands : (T : Tables) → tablesFault T ≡ Sound → (R : Room) → Limited R → (s : ℕ) → s < schemaCount (T .schemas) → (r : ℕ) (U : Words) → compiling T R s ≡ ok r U →
@@ -366,9 +366,3 @@ compile-stands T sound-tables R l s i r U h =
     let eq = sameText (T .pool) (T .texts) in
     let d = compiled trees R eq (findIn T) (limit (l .schemas)) (limit-notes (l .notes)) (wordsOf T) z (names-known T sound-tables) levels s i (wordsOf T) U r z (extends-self (wordsOf T)) h in
     ap (mapOption (whole trees)) (meant-source (wordsOf T) z eq (findIn T) (names-known T sound-tables) levels s i ∙ d .is)
-  where
-    limit : {n : ℕ} → n ≤ 4096 → n < NONE
-    limit h = omega arith
-
-    limit-notes : {n : ℕ} → n ≤ 1024 → n < NONE
-    limit-notes h = omega arith

@@ -18,6 +18,7 @@ use Rattle.validator.specs.Visit.{Nodes, numberOr, visitAt}
 use Rattle.grouping.specs.Tree.{Trees, View, mapList, flatList, mapOption, mapPair, whole, readObject, readShape, view, Every, nil, one, EveryPair, nilPair, onePair, Perhaps, absent, present, PerhapsEvery, absents, presents, ObjectIn, Children, inAny, inAll, inArray, inObject, Ordered}
 use Rattle.grouping.specs.Same.{withoutAll, Refusal, refuses as refusing, property, Schemaless, noWords, ofTypes, ofKey, ofCount, ofMultiple, ofPattern, ofReference, ofRange, toldBy, refusalBy, answeredBy}
 use Rattle.grouping.specs.Regrouped.{Each, stop, also, Maybe, neither, both, Pairs, endPairs, pair}
+use Rattle.grouping.proofs.Shapes.{object-is}
 use Rattle.grouping.proofs.Simulation.{Erasure, Quiet, Below, deep, accepts, refuses, invalids, ends, Opens, shut, keep, Extra, noExtra, extra, ObjectAlike, Alike, plains, anys, alls, arrays, objects, refs, Simulates, simulation}
 use Rattle.grouping.proofs.Parts.{parts, openedObject, openedShape, opened, parts-within, every-flat, lists-trees, tree-shape}
 use Rattle.grouping.proofs.Opened.{self, stepless, steplessly, visit-opened}
@@ -101,14 +102,6 @@ ofItems (allOf note xs) = none
 ofItems (array w x) = x
 ofItems (object o) = none
 ofItems (ref note t b) = none
-
-ofObject : {A : Type 0} → Object A → Shape A → Object A
-ofObject d (plain w) = d
-ofObject d (anyOf note xs) = d
-ofObject d (allOf note xs) = d
-ofObject d (array w x) = d
-ofObject d (object o) = o
-ofObject d (ref note t b) = d
 
 ofNote : {A : Type 0} → Shape A → Option Note
 ofNote (plain w) = none
@@ -266,13 +259,13 @@ module _ {N : Type 0} (B : Trees N) (look look′ : ℕ → Shape ℕ) (n n′ :
 
   shapes-alike : {s u : ℕ} → s ≤ n → u ≤ n′ → {x y : Shape ℕ} → SameKind x y → Children (λ x. x < s) x → Children (λ x. x < u) y → readShape B (view B look) x ≡ readShape B (view B look′) y →
       Alike treewise Twins (opened look) (openedShape look x) (openedShape look′ y)
-  unfolding openedShape readShape ofPlain ofList ofItems ofObject ofNote ofText ofEager
+  unfolding openedShape readShape ofPlain ofList ofItems ofNote ofText ofEager
   shapes-alike le le′ (kPlain {w = w}) c c′ h = subst (λ (v : Own). Alike treewise Twins (opened look) (plain w) (plain v)) (ap (ofPlain w) h) plains
   shapes-alike le le′ (kAny {xs = xs} {ys = ys}) (inAny c) (inAny c′) h = anys (each le le′ xs ys c c′ (ap ofList h))
   shapes-alike le le′ (kAll {xs = xs} {ys = ys}) (inAll c) (inAll c′) h = alls (each le le′ xs ys c c′ (ap ofList h))
   shapes-alike le le′ (kArray {w = w} {x = x} {y = y}) (inArray c) (inArray c′) h =
       subst (λ (v : Own). Alike treewise Twins (opened look) (array w x) (array v y)) (ap (ofPlain w) h) (arrays (option le le′ c c′ (ap ofItems h)))
-  shapes-alike le le′ (kObject {o = o}) (inObject c) (inObject c′) h = objects (objects-alike le le′ c c′ (ap (ofObject (readObject B (view B look) o)) h))
+  shapes-alike le le′ kObject (inObject c) (inObject c′) h = objects (objects-alike le le′ c c′ (object-is h))
   shapes-alike le le′ (kRef {a = a} {b = b} {t = t} {u = u} {c = c} {d = d}) i i′ h =
       subst (λ (x : Option Note). Alike treewise Twins (opened look) (ref a t c) (ref x u d)) (ap ofNote h)
       (subst (λ (x : ℕ). Alike treewise Twins (opened look) (ref a t c) (ref a x d)) (ap ofText h)

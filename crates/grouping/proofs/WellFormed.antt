@@ -23,10 +23,10 @@ use Rattle.records.specs.Records.{countsOf}
 use Rattle.rules.specs.Schemas.{unusedAt, unusedFrom, trueOk, numberOk, stringOk, listOk, arrayOk, objectOk, refOk, schemaNoteOk, schemaRule, schemaOk}
 use Rattle.lists.specs.Lists.{optionalBelow, listBelow}
 use Rattle.lists.proofs.Walked.{every-at}
-use Rattle.tables.specs.declared.check.Fault.{Fault}
-use Rattle.tables.specs.declared.check.Fault.the-variants.{Sound, Bad}
-use Rattle.tables.specs.Check.{wholeSize, sizeOr, sizesFault, recordsFault, orElse, lentFault, tablesFault}
+use Rattle.tables.specs.declared.check.Fault.the-variants.{Sound}
+use Rattle.tables.specs.Check.{wholeSize, sizesFault, recordsFault, lentFault, tablesFault}
 use Rattle.tables.specs.Facts.{WellFormed}
+use Rattle.tables.proofs.Faults.{first-sound, size-good, size-rest}
 use Rattle.tables.proofs.Facts.{well-formed, Optional, present as below-limit, ObjectFacts, SchemaFacts, schema-facts, node-facts, entry-facts}
 use Rattle.schema.specs.Shape.{nameless, named, plain, anyOf, allOf, array, object, ref}
 use Rattle.schema.specs.Look as words
@@ -36,27 +36,10 @@ use Rattle.grouping.specs.Tree.{Every, nil, one, EveryPair, nilPair, one
 use Rattle.grouping.proofs.Growing.{Sound as Steady}
 use Rattle.grouping.proofs.Checked.{RowIn, sound}
 
-never : {A : Type 0} {t n : ℕ} → Bad t n ≡ Sound → A
-never h = let z : _≡_ {A = ℕ} 0 1 = cc in absurd (omega arith)
-
 -- sizes are whole numbers of records
-size-good : (good : Bool) (table : ℕ) (rest : Fault) → sizeOr good table rest ≡ Sound → good ≡ true
-unfolding sizeOr
-size-good true table rest h = refl
-size-good false table rest h = never h
-
-size-rest : (good : Bool) (table : ℕ) (rest : Fault) → sizeOr good table rest ≡ Sound → rest ≡ Sound
-unfolding sizeOr
-size-rest true table rest h = h
-size-rest false table rest h = never h
-
 whole-rows : (words width most : ℕ) → wholeSize words width most ≡ true → words % width ≡ 0
 unfolding wholeSize
 whole-rows words width most t = eqb-true (words % width) 0 (both-left (eqb (words % width) 0) (leb (words / width) most) t)
-
-first-sound : (a b : Fault) → orElse a b ≡ Sound → a ≡ Sound
-first-sound Sound b h = refl
-first-sound (Bad t n) b h = never h
 
 record Whole (T : Tables) : Type 0 where
   nodes : length (T .nodes) % 4 ≡ 0
@@ -288,13 +271,15 @@ module _ (T : Tables) (sound-tables : tablesFault T ≡ Sound) where
   -- tables that pass the check read the same whatever is appended
   pub checked : Steady (wordsOf T)
   checked = sound (record {
-    rows = unfold schemaCount in omega (arith, whole-sizes T sound-tables .schemas);
-    note-rows = omega (arith, whole-sizes T sound-tables .notes);
-    few = omega (arith, formed .sized .schemas);
-    few-notes = unfold noteCount in omega (arith, formed .sized .notes);
+    placed = record {
+      rows = unfold schemaCount in omega (arith, whole-sizes T sound-tables .schemas);
+      note-rows = omega (arith, whole-sizes T sound-tables .notes);
+      few = omega (arith, formed .sized .schemas);
+      few-notes = unfold noteCount in omega (arith, formed .sized .notes);
+      below = children;
+      bases-below = bases-every;
+    };
     row = row-in;
-    below = children;
-    bases-below = bases-every;
   })
 
   named-or : (b : Bool) (i : ℕ) (x : Found) → entrySchema (T .registry) i < schemaCount (T .schemas) → Perhaps (λ y. y < schemaCount (T .schemas)) (toOption (foundAt (entrySchema (T .registry)) x)) →

@@ -8,7 +8,6 @@ use mathlib.Core.Option.{Option, some, none}
 use native.Mathlib.Omega.{arith}
 use lib.ListN.{length, getD, length-append}
 use lib.Dec.{eqb, leb}
-use borrow.Author.Tests.{leb-true}
 use Rattle.text.specs.Choice.{pick}
 use Rattle.text.specs.Text.{textCount}
 use Rattle.layout.specs.Layout.{Tables, NONE, noteCount, schemaWord, schemaKind, schemaNote, arrayMinimum, arrayMaximum, arrayUnique, requiredFirst, requiredCount, objectMinimum, objectMaximum, objectClosed, namingConvention}
@@ -20,11 +19,12 @@ use Rattle.tables.proofs.Facts.{Optional, ListIn, SchemaFacts, schema-facts}
 use Rattle.schema.specs.Shape.{Note, Pair, Object}
 use Rattle.schema.specs.Look.{Words}
 use Rattle.merge.specs.Pairs.{flatPairs}
-use Rattle.compilation.specs.Compile.{Result, ok, refuse, then, Room, withNotes, withRow, withLinks, noteWordsOf, addNote, addRow, addLinks, addList, addArray, addObject, joinLinks, joinRow, addMerged}
-use Rattle.grouping.specs.Tree.{Every, one, PerhapsEvery, absents, presents}
+use Rattle.compilation.specs.Compile.{Result, ok, then, Room, withNotes, withRow, withLinks, noteWordsOf, addRow, addList, addArray, addObject, joinLinks, joinRow, addMerged}
+use Rattle.grouping.specs.Tree.{Every, one, PerhapsEvery, presents}
 use Rattle.grouping.specs.Values.{grown}
 use Rattle.grouping.specs.Record.{count}
-use Rattle.grouping.proofs.Compiled.{every-less, ok-same}
+use Rattle.grouping.proofs.Shapes.{every-perhaps}
+use Rattle.grouping.proofs.Growing.{links-step, note-step, row-step, last-row}
 use Rattle.keeping.proofs.Rules.{optional-more, list-later, PairsHeld, pairs-later, any-ok, all-ok, array-ok, object-ok}
 use Rattle.keeping.proofs.Growth.{Longer, longer-itself, longer-more, longer-count, Good, formed, longer-links, longer-notes, longer-row, good-links, good-note, good-row, row-word, note-word, count-row}
 use Rattle.keeping.proofs.Lots.{links-in, Lot, lot-held}
@@ -60,51 +60,17 @@ module _ (T : Tables) where
       (λ j m. row-word T (listRow kind note at n) g j) (unfold countsIn in p) q)
 
   module _ (R : Room) (eq : ℕ → ℕ → Bool) (find : ℕ → Option ℕ) (notes-room : R .notes ≤ 1024) (schemas-room : R .schemas ≤ 4096) (links-room : R .links ≤ 16384) where
-    -- what an append that went well did
-    links-then : {B : Type 0} (x : List ℕ) (t : Words) (f : ℕ → Words → Result B) (b : B) (t′ : Words) → then (addLinks R eq find x t) f ≡ ok b t′ →
-        (length (t .links) + length x ≤ 16384) × (f (length (t .links)) (withLinks t x) ≡ ok b t′)
-    unfolding addLinks
-    links-then x t f b t′ = at (leb (length (t .links) + length x) (R .links)) refl
-      where
-        at : (c : Bool) → leb (length (t .links) + length x) (R .links) ≡ c → then (pick c (ok (length (t .links)) (withLinks t x)) (refuse 33)) f ≡ ok b t′ →
-            (length (t .links) + length x ≤ 16384) × (f (length (t .links)) (withLinks t x) ≡ ok b t′)
-        at true h e = (omega (arith, leb-true (length (t .links) + length x) (R .links) h), e)
-        at false h e = absurd (let q : _≡_ {A = ℕ} 0 1 = cc in omega arith)
-
-    note-then : {B : Type 0} (x : List ℕ) (t : Words) (f : ℕ → Words → Result B) (b : B) (t′ : Words) → then (addNote R eq find x t) f ≡ ok b t′ →
-        (noteCount (t .notes) + 1 ≤ 1024) × (f (noteCount (t .notes)) (withNotes t x) ≡ ok b t′)
-    unfolding addNote
-    note-then x t f b t′ = at (leb (noteCount (t .notes) + 1) (R .notes)) refl
-      where
-        at : (c : Bool) → leb (noteCount (t .notes) + 1) (R .notes) ≡ c → then (pick c (ok (noteCount (t .notes)) (withNotes t x)) (refuse 33)) f ≡ ok b t′ →
-            (noteCount (t .notes) + 1 ≤ 1024) × (f (noteCount (t .notes)) (withNotes t x) ≡ ok b t′)
-        at true h e = (omega (arith, leb-true (noteCount (t .notes) + 1) (R .notes) h), e)
-        at false h e = absurd (let q : _≡_ {A = ℕ} 0 1 = cc in omega arith)
-
-    row-then : {B : Type 0} (x : List ℕ) (t : Words) (f : ℕ → Words → Result B) (b : B) (t′ : Words) → then (addRow R eq find x t) f ≡ ok b t′ → (count t + 1 ≤ 4096) × (f (count t) (withRow t x) ≡ ok b t′)
-    unfolding addRow
-    row-then x t f b t′ = at (leb (count t + 1) (R .schemas)) refl
-      where
-        at : (c : Bool) → leb (count t + 1) (R .schemas) ≡ c → then (pick c (ok (count t) (withRow t x)) (refuse 33)) f ≡ ok b t′ → (count t + 1 ≤ 4096) × (f (count t) (withRow t x) ≡ ok b t′)
-        at true h e = (omega (arith, leb-true (count t + 1) (R .schemas) h), e)
-        at false h e = absurd (let q : _≡_ {A = ℕ} 0 1 = cc in omega arith)
-
     row-added : (row : List ℕ) (t : Words) (r : ℕ) (t′ : Words) → Good T t → length row ≡ 16 → (count t + 1 ≤ 4096 → Good T (withRow t row)) → addRow R eq find row t ≡ ok r t′ → Kept t t′ r
-    unfolding addRow
-    row-added row t r t′ g n good = at (leb (count t + 1) (R .schemas)) refl
-      where
-        at : (c : Bool) → leb (count t + 1) (R .schemas) ≡ c → pick c (ok (count t) (withRow t row)) (refuse 33) ≡ ok r t′ → Kept t t′ r
-        at true h e =
-            ok-same (λ r t′. Kept t t′ r) (count t) r (withRow t row) t′ e
-            (record { longer = longer-row T t row; good = good (omega (arith, leb-true (count t + 1) (R .schemas) h)); new = omega (arith, count-row T row g n) })
-        at false h e = absurd (let q : _≡_ {A = ℕ} 0 1 = cc in omega arith)
+    row-added row t r t′ g n good =
+        last-row R eq find (λ r t′. Kept t t′ r) row t r t′
+        (λ room. record { longer = longer-row T t row; good = good (omega (arith, room)); new = omega (arith, count-row T row g n) })
 
     pub list-added : (kind note : ℕ) (xs : List ℕ) (t : Words) (r : ℕ) (t′ : Words) → Good T t → (kind ≡ 7) ⊎ (kind ≡ 8) → Optional note (noteCount (t .notes)) → Every (λ x. x < count t) xs →
         addList R eq find kind note xs t ≡ ok r t′ → Kept t t′ r
     unfolding addList
     list-added kind note xs t r t′ g k p q h =
-        let s = links-then xs t _ r t′ h in
-        let g₁ : Good T (withLinks t xs) = good-links T xs g (s .0) in
+        let s = links-step R eq find xs t _ r t′ h in
+        let g₁ : Good T (withLinks t xs) = good-links T xs g (omega (arith, s .0)) in
         kept-after (longer-links T t xs)
         (row-added (listRow kind note (length (t .links)) (length xs)) (withLinks t xs) r t′ g₁ refl
         (λ l. list-good (withLinks t xs) kind note (length (t .links)) (length xs) g₁ k p (links-in (t .links) xs (count t) q) l) (s .1))
@@ -140,12 +106,12 @@ module _ (T : Tables) where
         Optional additional (count t) → Optional names (count t) → addObject R eq find s ps qs additional names t ≡ ok r t′ → Kept t t′ r
     unfolding addObject
     object-added s ps qs additional names t r t′ g i e b c d f h =
-        let s₁ = links-then (flatPairs ps) t _ r t′ h in
+        let s₁ = links-step R eq find (flatPairs ps) t _ r t′ h in
         let t₁ : Words = withLinks t (flatPairs ps) in
-        let g₁ : Good T t₁ = good-links T (flatPairs ps) g (s₁ .0) in
-        let s₂ = links-then (flatPairs qs) t₁ _ r t′ (s₁ .1) in
+        let g₁ : Good T t₁ = good-links T (flatPairs ps) g (omega (arith, s₁ .0)) in
+        let s₂ = links-step R eq find (flatPairs qs) t₁ _ r t′ (s₁ .1) in
         let t₂ : Words = withLinks t₁ (flatPairs qs) in
-        let g₂ : Good T t₂ = good-links T (flatPairs qs) g₁ (s₂ .0) in
+        let g₂ : Good T t₂ = good-links T (flatPairs qs) g₁ (omega (arith, s₂ .0)) in
         let e₁ : Longer t₁ t₂ = longer-links T t₁ (flatPairs qs) in
         let facts : SchemaFacts (grown T t₂) s = schema-facts (grown T t₂) (formed T g₂) s i in
         let o = facts .object e in
@@ -181,12 +147,12 @@ module _ (T : Tables) where
     join-links (some []) t f b t′ g q e = record { at = 0; words = t; longer = longer-itself t; good = g; linked = lEmpty; rest = e }
     join-links (some (x ∷ [])) t f b t′ g (presents (one p q)) e = record { at = 0; words = t; longer = longer-itself t; good = g; linked = lOne p; rest = e }
     join-links (some (x ∷ (y ∷ ys))) t f b t′ g (presents q) e =
-        let s = links-then (x ∷ (y ∷ ys)) t f b t′ e in
+        let s = links-step R eq find (x ∷ (y ∷ ys)) t f b t′ e in
         record {
           at = length (t .links);
           words = withLinks t (x ∷ (y ∷ ys));
           longer = longer-links T t (x ∷ (y ∷ ys));
-          good = good-links T (x ∷ (y ∷ ys)) g (s .0);
+          good = good-links T (x ∷ (y ∷ ys)) g (omega (arith, s .0));
           linked = lMany (links-in (t .links) (x ∷ (y ∷ ys)) (count t) q);
           rest = s .1;
         }
@@ -206,12 +172,12 @@ module _ (T : Tables) where
     join-row kind k (some (x ∷ [])) at t f b t′ g (lOne p) e = record { word = x; words = t; longer = longer-itself t; good = g; new = inr p; rest = e }
     join-row kind k (some (x ∷ (y ∷ ys))) at t f b t′ g (lMany q) e =
         let row : List ℕ = listRow kind NONE at (length (x ∷ (y ∷ ys))) in
-        let s = row-then row t f b t′ e in
+        let s = row-step R eq find row t f b t′ e in
         record {
           word = count t;
           words = withRow t row;
           longer = longer-row T t row;
-          good = list-good t kind NONE at (length (x ∷ (y ∷ ys))) g k (inl refl) q (s .0);
+          good = list-good t kind NONE at (length (x ∷ (y ∷ ys))) g k (inl refl) q (omega (arith, s .0));
           new = inr (omega (arith, count-row T row g refl));
           rest = s .1;
         }
@@ -238,7 +204,7 @@ module _ (T : Tables) where
           addRow R eq find (objectRow ν p (length (o .props)) q (length (o .patterns)) additional a (length (o .required)) (o .least) (o .most) (pick (o .closed) 1 0) naming (o .naming)) t)))) ≡ ok r t′ → Kept t t′ r
       joins-added ν p q a t r t′ g b c d e f k h =
           let s₁ = join-links (o .additional) t _ r t′ g f h in
-          let s₂ = join-links names (s₁ .words) _ r t′ (s₁ .good) (later (s₁ .longer) k) (s₁ .rest) in
+          let s₂ = join-links names (s₁ .words) _ r t′ (s₁ .good) (every-perhaps (longer-count (s₁ .longer)) k) (s₁ .rest) in
           let s₃ = join-row 8 (inr refl) (o .additional) (s₁ .at) (s₂ .words) _ r t′ (s₂ .good) (linked-later (s₂ .longer) (s₁ .linked)) (s₂ .rest) in
           let s₄ = join-row 7 (inl refl) names (s₂ .at) (s₃ .words) _ r t′ (s₃ .good) (linked-later (s₃ .longer) (s₂ .linked)) (s₃ .rest) in
           let all : Longer t (s₄ .words) = longer-more (s₁ .longer) (longer-more (s₂ .longer) (longer-more (s₃ .longer) (s₄ .longer))) in
@@ -246,10 +212,6 @@ module _ (T : Tables) where
           (row-object ν p (length (o .props)) q (length (o .patterns)) (s₃ .word) a (length (o .required)) (o .least) (o .most) (pick (o .closed) 1 0) (s₄ .word) (o .naming) (s₄ .words) r t′ (s₄ .good)
           (optional-later all b) (pairs-later (T .pool) (T .texts) (all .links) (longer-count all) c) (pairs-later (T .pool) (T .texts) (all .links) (longer-count all) d) (optional-more (longer-count (s₄ .longer)) (s₃ .new))
           (list-later (all .links) (omega arith) e) (closed-low (o .closed)) (s₄ .new) (s₄ .rest))
-        where
-          later : {t u : Words} {x : Option (List ℕ)} → Longer t u → PerhapsEvery (λ y. y < count t) x → PerhapsEvery (λ y. y < count u) x
-          later e absents = absents
-          later e (presents q) = presents (every-less (longer-count e) q)
 
       pub merged-added : (t : Words) (r : ℕ) (t′ : Words) → Good T t → flagged (note .tags) (note .detection) ≡ true → LotIn t (o .props) → LotIn t (o .patterns) → Every (λ x. x < textCount (T .texts)) (o .required) →
           PerhapsEvery (λ x. x < count t) (o .additional) → PerhapsEvery (λ x. x < count t) names → addMerged R eq find note names o t ≡ ok r t′ → Kept t t′ r
@@ -259,14 +221,14 @@ module _ (T : Tables) where
           let t₂ : Words = withLinks t₁ (flatPairs (o .props)) in
           let t₃ : Words = withLinks t₂ (flatPairs (o .patterns)) in
           let t₄ : Words = withLinks t₃ (o .required) in
-          let s₁ = note-then (noteWordsOf note) t _ r t′ h in
-          let g₁ : Good T t₁ = note-good t note g fl (s₁ .0) in
-          let s₂ = links-then (flatPairs (o .props)) t₁ _ r t′ (s₁ .1) in
-          let g₂ : Good T t₂ = good-links T (flatPairs (o .props)) g₁ (s₂ .0) in
-          let s₃ = links-then (flatPairs (o .patterns)) t₂ _ r t′ (s₂ .1) in
-          let g₃ : Good T t₃ = good-links T (flatPairs (o .patterns)) g₂ (s₃ .0) in
-          let s₄ = links-then (o .required) t₃ _ r t′ (s₃ .1) in
-          let g₄ : Good T t₄ = good-links T (o .required) g₃ (s₄ .0) in
+          let s₁ = note-step R eq find (noteWordsOf note) t _ r t′ h in
+          let g₁ : Good T t₁ = note-good t note g fl (omega (arith, s₁ .0)) in
+          let s₂ = links-step R eq find (flatPairs (o .props)) t₁ _ r t′ (s₁ .1) in
+          let g₂ : Good T t₂ = good-links T (flatPairs (o .props)) g₁ (omega (arith, s₂ .0)) in
+          let s₃ = links-step R eq find (flatPairs (o .patterns)) t₂ _ r t′ (s₂ .1) in
+          let g₃ : Good T t₃ = good-links T (flatPairs (o .patterns)) g₂ (omega (arith, s₃ .0)) in
+          let s₄ = links-step R eq find (o .required) t₃ _ r t′ (s₃ .1) in
+          let g₄ : Good T t₄ = good-links T (o .required) g₃ (omega (arith, s₄ .0)) in
           let e₃ : Longer t₃ t₄ = longer-links T t₃ (o .required) in
           let e₂ : Longer t₂ t₄ = longer-more {t = t₂} {u = t₃} (longer-links T t₂ (flatPairs (o .patterns))) e₃ in
           let e₁ : Longer t₁ t₄ = longer-more {t = t₁} {u = t₂} (longer-links T t₁ (flatPairs (o .props))) e₂ in

@@ -12,14 +12,13 @@ use Rattle.error.specs.Answers.{withUsed}
 use Rattle.layout.specs.Layout.{Tables, mostNotes, mostSchemas, mostLinks, noteCount, schemaCount}
 use Rattle.tables.specs.declared.check.Fault.the-variants.{Sound}
 use Rattle.tables.specs.Check.{usedSize, sizesFault, recordsFault, lentFault, tablesFault}
+use Rattle.tables.proofs.Faults.{first-sound, second-sound, size-more}
 use Rattle.tables.proofs.Facts.{well-formed}
 use Rattle.tables.specs.Facts.{Sized}
 use Rattle.schema.specs.Look.{Words}
 use Rattle.compilation.specs.Entry.{Compiled, usedTables, usedFault, compileOf}
 use Rattle.grouping.specs.Values.{grown}
-use Rattle.grouping.proofs.Used.{size-more}
 use Rattle.keeping.specs.Left.{Compiles, lentAfter, leftBy}
-use Rattle.keeping.proofs.Growth.{sizes-first, records-second}
 use Rattle.keeping.proofs.Called.{done, left-is}
 use Rattle.keeping.proofs.Keeps.{compile-keeps-the-check}
 
@@ -62,4 +61,4 @@ module _ (T : Tables) (u : Used) (s : ℕ) (h : Compiles T u s) where
   unfolding usedFault tablesFault leftBy usedTables
   compile-can-go-on =
       let U : Tables = leftBy T (compileOf T u s) in
-      rw (sizes U _ _ _ (counted .notes) (counted .schemas) (counted .links) (sizes-first (lentFault U) (recordsFault U) passed)) (records-second (lentFault U) (recordsFault U) passed)
+      rw (sizes U _ _ _ (counted .notes) (counted .schemas) (counted .links) (first-sound (lentFault U) (recordsFault U) passed)) (second-sound (lentFault U) (recordsFault U) passed)

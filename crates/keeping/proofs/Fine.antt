@@ -12,16 +12,17 @@ use Rattle.text.specs.Text.{textCount, sameText}
 use Rattle.layout.specs.Layout.{Tables, NONE, noteCount, schemaKind, schemaNote, arrayItems, propertiesFirst, propertiesCount, patternPropertiesFirst, patternPropertiesCount, additionalProperties, propertyNames, refText, refEager}
 use Rattle.records.specs.Records.{noteOk}
 use Rattle.tables.proofs.Facts.{Optional, present as below-limit, ObjectFacts, SchemaFacts, schema-facts}
-use Rattle.schema.specs.Shape.{Note, Own, Names, nameless, detects, named, Object, Shape, plain, anyOf, allOf, array, object, ref}
+use Rattle.schema.specs.Shape.{Note, Own, Object, Shape, plain, anyOf, allOf, array, object, ref}
 use Rattle.schema.specs.Look as words
-use Rattle.schema.specs.Look.{Words, noteAt, optional, detecting, sortNames, sortObject, sortShape, raw, look}
+use Rattle.schema.specs.Look.{Words, noteAt, optional, detecting, sortObject, sortShape, raw, look}
 use Rattle.merge.specs.Merge.{Kept, kept, over, later, withTags, Gathered, start, add, gather}
 use Rattle.compilation.specs.Compile.{objectsCons, objectsOf, looks}
-use Rattle.grouping.specs.Tree.{Every, nil, one, PerhapsEvery, absents, NamesIn, inDetects, inNamed}
+use Rattle.grouping.specs.Tree.{Every, nil, one, PerhapsEvery, absents, NamesIn}
 use Rattle.grouping.specs.Values.{grown}
 use Rattle.grouping.specs.Record.{count}
-use Rattle.grouping.proofs.Natural.{append-in, join-in, counting-in}
-use Rattle.grouping.proofs.Compiled.{every-perhaps, every-names}
+use Rattle.grouping.proofs.Natural.{join-in, counting-in}
+use Rattle.grouping.proofs.Shapes.{append-in, every-perhaps, every-names}
+use Rattle.grouping.proofs.Frame.{sort-names}
 use Rattle.grouping.proofs.WellFormed.{list-every, word-every, word-names}
 use Rattle.keeping.proofs.Rules.{pairs-held}
 use Rattle.keeping.proofs.Growth.{Good, formed}
@@ -91,18 +92,6 @@ module _ (T : Tables) where
     names = every-names le (h .names);
   }
 
-  sort-names : {P : ℕ → Type 0} (f : ℕ → Bool) (x : Names ℕ) → NamesIn P x → NamesIn P (sortNames f x)
-  unfolding sortNames
-  sort-names f nameless h = h
-  sort-names f (detects x) h = h
-  sort-names f (named []) h = h
-  sort-names {P} f (named (x ∷ [])) (inNamed (one p q)) = at (f x)
-    where
-      at : (b : Bool) → NamesIn P (pick b (detects x) (named (x ∷ [])))
-      at true = inDetects p
-      at false = inNamed (one p nil)
-  sort-names f (named (x ∷ (y ∷ ys))) h = h
-
   flag-pick : (b : Bool) (x : Note) → (b ≡ false → flagged (x .tags) (x .detection) ≡ true) → Flagged (kept (pick b none (some x)))
   flag-pick true x h = refl
   flag-pick false x h = h refl
@@ -123,7 +112,7 @@ module _ (T : Tables) where
         patterns = lot-read (T .pool) (T .texts) (t .links) (patternPropertiesFirst (t .schemas) s) (patternPropertiesCount (t .schemas) s) (textCount (T .texts)) s (pairs-held (T .pool) (T .texts) (o .patterns));
         additional = word-every (additionalProperties (t .schemas) s) (o .additional);
         required = list-every (t .links) _ _ (textCount (T .texts)) (o .required .below);
-        names = sort-names (λ n. detecting (raw t n)) _ (word-names (propertyNames (t .schemas) s) (o .names));
+        names = sort-names (λ n. detecting (raw t n)) (word-names (propertyNames (t .schemas) s) (o .names));
       }
 
   pub data AllFine (limit : ℕ) : List (Object ℕ) → Type 0 where

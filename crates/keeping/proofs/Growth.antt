@@ -15,31 +15,19 @@ use Rattle.layout.specs.Layout.{Tables, mostNotes, mostSchemas, mostLinks, node
 use Rattle.records.specs.declared.Counts.{Counts}
 use Rattle.records.specs.Records.{countsIn, countsOf, noteOk, nodeOk, entryOk, patternOk}
 use Rattle.rules.specs.Schemas.{schemaOk}
-use Rattle.tables.specs.declared.check.Fault.{Fault}
-use Rattle.tables.specs.declared.check.Fault.the-variants.{Sound, Bad}
-use Rattle.tables.specs.Check.{wholeSize, sizesFault, recordCount, recordOk, firstBad, recordsFrom, recordsFault, orElse, lentFault, tablesFault}
+use Rattle.tables.specs.declared.check.Fault.the-variants.{Sound}
+use Rattle.tables.specs.Check.{wholeSize, sizesFault, recordCount, recordOk, firstBad, recordsFrom, recordsFault, lentFault, tablesFault}
 use Rattle.tables.specs.Facts.{WellFormed}
+use Rattle.tables.proofs.Faults.{first-sound, size-more}
 use Rattle.tables.proofs.Facts.{well-formed, entry-facts}
 use Rattle.schema.specs.Look.{Words}
 use Rattle.compilation.specs.Compile.{withNotes, withRow, withLinks}
 use Rattle.compilation.proofs.Grows.{Begins, begins-itself, begins-more}
 use Rattle.grouping.specs.Values.{grown}
 use Rattle.grouping.specs.Record.{count}
-use Rattle.grouping.proofs.Used.{size-more}
 use Rattle.grouping.proofs.Growing.{Sound as Steady}
 use Rattle.grouping.proofs.WellFormed.{checked}
 use Rattle.keeping.proofs.Rules.{first-made, node-longer, schema-kept}
-
-never : {A : Type 0} {t n : ℕ} → Bad t n ≡ Sound → A
-never h = let z : _≡_ {A = ℕ} 0 1 = cc in absurd (omega arith)
-
-pub sizes-first : (a b : Fault) → orElse a b ≡ Sound → a ≡ Sound
-sizes-first Sound b h = refl
-sizes-first (Bad t n) b h = never h
-
-pub records-second : (a b : Fault) → orElse a b ≡ Sound → b ≡ Sound
-records-second Sound b h = h
-records-second (Bad t n) b h = never h
 
 -- good sizes and good records pass
 module _ (X : Tables) where
@@ -95,9 +83,9 @@ module _ (T : Tables) where
   pub fits : {t : Words} → Good t → Fits t
   unfolding noteCount schemaCount
   fits {t} g = record {
-    note-rows = omega (arith, steady g .note-rows);
+    note-rows = omega (arith, steady g .placed .note-rows);
     notes = formed g .sized .notes;
-    rows = omega (arith, steady g .rows);
+    rows = omega (arith, steady g .placed .rows);
     schemas = formed g .sized .schemas;
     links = formed g .sized .links;
   }
@@ -105,11 +93,11 @@ module _ (T : Tables) where
   -- a word of an old record
   pub word-kept : {t u : Words} → Good t → Longer t u → (s k : ℕ) → s < count t → k < 16 → schemaWord (u .schemas) s k ≡ schemaWord (t .schemas) s k
   unfolding schemaWord
-  word-kept g e s k l m = e .schemas .same (s * 16 + k) (omega (arith, steady g .rows))
+  word-kept g e s k l m = e .schemas .same (s * 16 + k) (omega (arith, steady g .placed .rows))
 
   note-kept : {t u : Words} → Good t → Longer t u → (n k : ℕ) → n < noteCount (t .notes) → k < 9 → noteWord (u .notes) n k ≡ noteWord (t .notes) n k
   unfolding noteWord noteCount
-  note-kept g e n k l m = e .notes .same (n * 9 + k) (omega (arith, steady g .note-rows))
+  note-kept g e n k l m = e .notes .same (n * 9 + k) (omega (arith, steady g .placed .note-rows))
 
   module _ {t u : Words} (g : Good t) (e : Longer t u) (f : Fits u) where
     lent-kept : lentFault (grown T u) ≡ Sound
@@ -122,7 +110,7 @@ module _ (T : Tables) where
         (size-more _ _ 5 _ _ (λ q. q)
         (size-more _ _ 6 _ _ (λ q. q)
         (size-more _ _ 7 _ _ (λ q. le-leb (length (u .links)) mostLinks (f .links)) (λ q. q)))))))
-        (sizes-first (lentFault (grown T t)) (recordsFault (grown T t)) (g .sound))
+        (first-sound (lentFault (grown T t)) (recordsFault (grown T t)) (g .sound))
 
     node-still : (i : ℕ) → nodeOk (countsOf (grown T t)) (t .links) (T .nodes) i ≡ true → nodeOk (countsOf (grown T u)) (u .links) (T .nodes) i ≡ true
     unfolding nodeOk countsIn
@@ -204,12 +192,12 @@ module _ (T : Tables) where
   -- a new record's words
   pub row-word : {t : Words} (x : List ℕ) → Good t → (k : ℕ) → schemaWord (t .schemas ++ x) (count t) k ≡ getD x k 0
   unfolding schemaWord
-  row-word {t} x g k = ap (λ (at : ℕ). getD (t .schemas ++ x) (at + k) 0) (steady g .rows) ∙ getD-append-add (t .schemas) x k 0
+  row-word {t} x g k = ap (λ (at : ℕ). getD (t .schemas ++ x) (at + k) 0) (steady g .placed .rows) ∙ getD-append-add (t .schemas) x k 0
 
   pub note-word : {t : Words} (x : List ℕ) → Good t → (k : ℕ) → noteWord (t .notes ++ x) (noteCount (t .notes)) k ≡ getD x k 0
   unfolding noteWord noteCount
-  note-word {t} x g k = ap (λ (at : ℕ). getD (t .notes ++ x) (at + k) 0) (steady g .note-rows) ∙ getD-append-add (t .notes) x k 0
+  note-word {t} x g k = ap (λ (at : ℕ). getD (t .notes ++ x) (at + k) 0) (steady g .placed .note-rows) ∙ getD-append-add (t .notes) x k 0
 
   pub count-row : {t : Words} (x : List ℕ) → Good t → length x ≡ 16 → count (withRow t x) ≡ suc (count t)
   unfolding schemaCount
-  count-row {t} x g n = omega (arith, steady g .rows, length-append (t .schemas) x)
+  count-row {t} x g n = omega (arith, steady g .placed .rows, length-append (t .schemas) x)

@@ -26,8 +26,9 @@ use Rattle.grouping.specs.Tree.{Every, nil, one, EveryPair, nilPair, onePair, P
 use Rattle.grouping.specs.Values.{grown}
 use Rattle.grouping.specs.Record.{count}
 use Rattle.grouping.specs.Demand.{compiling}
-use Rattle.grouping.proofs.Natural.{append-in, join-in}
-use Rattle.grouping.proofs.Compiled.{then-elim, ok-same, every-less, pairs-less}
+use Rattle.grouping.proofs.Natural.{join-in}
+use Rattle.grouping.proofs.Shapes.{append-in, every-less, pairs-less}
+use Rattle.grouping.proofs.Growing.{then-elim, ok-same}
 use Rattle.grouping.proofs.WellFormed.{list-every, names-known}
 use Rattle.keeping.specs.Left.{Compiles, leftBy}
 use Rattle.keeping.proofs.Rules.{optional-more}
@@ -196,7 +197,7 @@ module _ (T : Tables) (R : Room) (find : ℕ → Option ℕ) (notes-room : R .no
   pub compile-keeps : (k : ℕ) → Keeps (compileAt R eq find k)
   unfolding compileAt
   compile-keeps zero s t r t′ g l i h = absurd (let q : _≡_ {A = ℕ} 0 1 = cc in omega arith)
-  compile-keeps (suc k) s t r t′ g l i h = cases (compileAt R eq find k) (compile-keeps k) s t g l i (look t s) (seen t s) (bases t s) (steady T g .bases-below s i) r t′ h
+  compile-keeps (suc k) s t r t′ g l i h = cases (compileAt R eq find k) (compile-keeps k) s t g l i (look t s) (seen t s) (bases t s) (steady T g .placed .bases-below s i) r t′ h
 
 -- what a call of `compile` that answers 0 leaves passes the check, and holds the record that it answers
 pub record Passes (T : Tables) (s : ℕ) : Type 0 where

@@ -22,7 +22,7 @@ use Rattle.grouping.proofs.Merging.{Keys, Lacks, ended, other, Distinct, done, 
 use Rattle.grouping.proofs.Natural.{putAll-in}
 use Rattle.grouping.proofs.Growing.{pairs-new}
 use Rattle.grouping.proofs.Rowed.{pairs-are}
-use Rattle.grouping.proofs.Compiled.{pairs-less}
+use Rattle.grouping.proofs.Shapes.{pairs-less}
 use Rattle.grouping.proofs.WellFormed.{pairs-every}
 use Rattle.grouping.proofs.Grouping.{text-keys}
 use Rattle.keeping.proofs.Rules.{PairsHeld}

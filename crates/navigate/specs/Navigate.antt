@@ -11,15 +11,13 @@ use Rattle.error.specs.Answers.{plainAnswer, badTable, foundRecord}
 use Rattle.lookup.specs.declared.Found.{Found}
 use Rattle.lookup.specs.declared.Found.the-variants.{At, Nothing}
 use Rattle.tables.specs.declared.check.Fault.{Fault}
-use Rattle.tables.specs.declared.check.Fault.the-variants.{Sound, Bad}
-use Rattle.tables.specs.Check.{tablesFault}
+use Rattle.tables.specs.Check.{onFault, tablesFault}
 use Rattle.navigate.specs.Walk.{navigateOver}
 use Rattle.navigate.specs.Path.{stepsOf, pathFault}
 
 -- 20 where there is a fault, else the rest
 abbrev pub faultOr : Fault → Answer → Answer
-faultOr Sound rest = rest
-faultOr (Bad table place) rest = badTable table place
+faultOr f rest = onFault f badTable rest
 
 -- 0 with the node that is found, 40 where nothing is
 abbrev pub foundAnswer : Found → Answer

@@ -1,6 +1,6 @@
 -- What the check establishes, for the layers above: `well-formed`, then every fact of a node, a schema, a registry entry, a pattern
 -- answer and a note by its name. Assumes nothing.
-use mathlib.Core.Path.{_≡_, refl, sym, ap, _∙_}
+use mathlib.Core.Path.{_≡_, sym, ap, _∙_}
 use mathlib.Core.Bool.{Bool, true, false, not}
 use mathlib.Core.List.{List}
 use mathlib.Core.Logic.{_⊎_, inl, inr, ⊎-elim}
@@ -14,25 +14,17 @@ use Rattle.text.specs.Text.{textOf, textCount, sameText}
 use Rattle.text.proofs.Bytes.{same-text-complete}
 use Rattle.layout.specs.Layout.{Tables, NONE, nodeKind, nodeA, nodeB, nodeC, pairKey, pairValue, nodeCount, noteCount, schemaCount, entryCount, patternCount, entryText, entrySchema, patternText, subjectText, patternAnswer, noteTags, noteCaseDetection, schemaKind, schemaNote, numberMinimum, numberMaximum, numberExclusiveMinimum, numberExclusiveMaximum, numberMultiple, stringPattern, listFirst, listCount, arrayItems, arrayUnique, propertiesFirst, propertiesCount, patternPropertiesFirst, patternPropertiesCount, additionalProperties, requiredFirst, requiredCount, objectClosed, propertyNames, basesFirst, basesCount, refText, refEager}
 use Rattle.layout.specs.Walk.{every, first}
-use Rattle.tables.specs.declared.check.Fault.{Fault}
-use Rattle.tables.specs.declared.check.Fault.the-variants.{Sound, Bad}
+use Rattle.tables.specs.declared.check.Fault.the-variants.{Sound}
 use Rattle.records.specs.declared.Counts.{Counts}
 use Rattle.lists.specs.Lists.{optionalBelow, linkBelow, listBelow, pairOk, keysDiffer, keyIsNew, keysDistinct, pairsBelow, pairsOk}
 use Rattle.records.specs.Records.{countsIn, countsOf, noteOk, plainNodeOk, booleanNodeOk, placeNodeOk, realNodeOk, listNodeOk, nodeRule, nodeOk, entryOk, patternOk}
 use Rattle.rules.specs.Schemas.{unusedFrom, schemaNoteOk, trueOk, numberOk, stringOk, listOk, arrayOk, basesOk, objectPairsOk, objectWordsOk, objectOk, refOk, schemaRule, schemaOk}
-use Rattle.tables.specs.Check.{recordCount, recordOk, firstBad, recordsFrom, recordsFault, orElse, lentFault, tablesFault}
+use Rattle.tables.specs.Check.{recordCount, recordOk, firstBad, recordsFrom, recordsFault, lentFault, tablesFault}
 use Rattle.tables.specs.Facts.{Sized, WellFormed}
 use Rattle.lists.proofs.Walked.{every-at, first-at}
 use Rattle.records.proofs.Cases.{untagged, tagged}
 use Rattle.rules.proofs.Rules.{bases-absent, bases-listed}
-use Rattle.tables.proofs.Faults.{sizes-sound}
-
-never : {A : Type 0} {t n : ℕ} → Bad t n ≡ Sound → A
-never h = let z : _≡_ {A = ℕ} 0 1 = cc in absurd (omega arith)
-
-both-sound : (a b : Fault) → orElse a b ≡ Sound → (a ≡ Sound) × (b ≡ Sound)
-both-sound Sound b h = (refl, h)
-both-sound (Bad t n) b h = never h
+use Rattle.tables.proofs.Faults.{never, first-sound, second-sound, sizes-sound}
 
 -- every record of every table from `table` on is good
 records-good : (z : Counts) (T : Tables) (n table : ℕ) → recordsFrom z T table n ≡ Sound → (k : ℕ) → table ≤ k → k < table + n → (i : ℕ) → i < recordCount T k → recordOk z T k i ≡ true
@@ -55,10 +47,9 @@ records-good z T (suc n) table h k l m i u =
 pub well-formed : (T : Tables) → tablesFault T ≡ Sound → WellFormed T
 unfolding tablesFault recordsFault recordOk recordCount
 well-formed T h =
-    let s = both-sound (lentFault T) (recordsFault T) h in
-    let good = records-good (countsOf T) T 6 1 (s .1) in
+    let good = records-good (countsOf T) T 6 1 (second-sound (lentFault T) (recordsFault T) h) in
     record {
-      sized = sizes-sound T (s .0);
+      sized = sizes-sound T (first-sound (lentFault T) (recordsFault T) h);
       texts = good 1 (omega arith) (omega arith);
       nodes = good 2 (omega arith) (omega arith);
       notes = good 3 (omega arith) (omega arith);

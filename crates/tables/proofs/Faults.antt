@@ -1,5 +1,5 @@
 -- The check as a whole: sizes, then the first bad record of the first bad table. Assumes nothing.
-use mathlib.Core.Path.{_≡_, refl, _∙_}
+use mathlib.Core.Path.{_≡_, refl, ap, _∙_}
 use mathlib.Core.Bool.{Bool, true, false}
 use mathlib.Core.List.{List}
 use Prim.Native.Nat.{ℕ, _/_, _%_, _≤_}
@@ -19,16 +19,35 @@ use Rattle.tables.specs.Check.{wholeSize, sizeOr, textsSize, sizesFault,
 use Rattle.tables.specs.Facts.{Sized}
 use Rattle.tables.specs.Found.{badOr}
 
+-- what is bad is not sound
+pub never : {A : Type 0} {t n : ℕ} → Bad t n ≡ Sound → A
+never h = let z : _≡_ {A = ℕ} 0 1 = cc in absurd (omega arith)
+
+-- where nothing is found, neither the first finds anything nor the second
+pub first-sound : (a b : Fault) → orElse a b ≡ Sound → a ≡ Sound
+first-sound Sound b h = refl
+first-sound (Bad table n) b h = never h
+
+pub second-sound : (a b : Fault) → orElse a b ≡ Sound → b ≡ Sound
+second-sound Sound b h = h
+second-sound (Bad table n) b h = never h
+
 -- a size that is sound is good, and so are those after it
-size-good : (good : Bool) (table : ℕ) (rest : Fault) → sizeOr good table rest ≡ Sound → good ≡ true
+pub size-good : (good : Bool) (table : ℕ) (rest : Fault) → sizeOr good table rest ≡ Sound → good ≡ true
 unfolding sizeOr
 size-good true table rest h = refl
-size-good false table rest h = let z : _≡_ {A = ℕ} 0 1 = cc in absurd (omega arith)
+size-good false table rest h = never h
 
-size-rest : (good : Bool) (table : ℕ) (rest : Fault) → sizeOr good table rest ≡ Sound → rest ≡ Sound
+pub size-rest : (good : Bool) (table : ℕ) (rest : Fault) → sizeOr good table rest ≡ Sound → rest ≡ Sound
 unfolding sizeOr
 size-rest true table rest h = h
-size-rest false table rest h = let z : _≡_ {A = ℕ} 0 1 = cc in absurd (omega arith)
+size-rest false table rest h = never h
+
+-- sizes that are good wherever others are: sound wherever those are
+pub size-more : (a b : Bool) (table : ℕ) (x y : Fault) → (a ≡ true → b ≡ true) → (x ≡ Sound → y ≡ Sound) → sizeOr a table x ≡ Sound → sizeOr b table y ≡ Sound
+unfolding sizeOr
+size-more true b table x y p q h = ap (λ (c : Bool). sizeOr c table y) (p refl) ∙ q h
+size-more false b table x y p q h = never h
 
 pub whole-most : (words width most : ℕ) → wholeSize words width most ≡ true → words / width ≤ most
 unfolding wholeSize

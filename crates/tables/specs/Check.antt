@@ -75,9 +75,13 @@ recordsFrom z T table (suc n) =
 unfoldable pub recordsFault : Tables → Fault
 recordsFault T = recordsFrom (countsOf T) T 1 6
 
+-- what a fault makes of its table and its record; without one, the rest
+abbrev pub onFault : {A : Type 0} → Fault → (ℕ → ℕ → A) → A → A
+onFault Sound bad rest = rest
+onFault (Bad table n) bad rest = bad table n
+
 abbrev pub orElse : Fault → Fault → Fault
-orElse Sound rest = rest
-orElse (Bad table n) rest = Bad table n
+orElse f rest = onFault f (λ table n. Bad table n) rest
 
 -- the sizes where every table is lent whole
 unfoldable pub lentFault : Tables → Fault

@@ -22,8 +22,7 @@ use Rattle.judge.specs.declared.Verdict.{Verdict}
 use Rattle.judge.specs.declared.Verdict.the-variants.{Fine}
 use Rattle.judge.specs.Judge.{keyText}
 use Rattle.tables.specs.declared.check.Fault.{Fault}
-use Rattle.tables.specs.declared.check.Fault.the-variants.{Sound, Bad}
-use Rattle.tables.specs.Check.{tablesFault}
+use Rattle.tables.specs.Check.{onFault, tablesFault}
 use Rattle.validator.specs.declared.Begun.{Begun}
 use Rattle.validator.specs.declared.Begun.the-variants.{Answered, Visit}
 use Rattle.validator.specs.declared.walk.Choice.{Choice}
@@ -243,8 +242,7 @@ pub record Later (o : Visited) (I I′ S S′ : List ℕ) (r : Visited) : Type 0
 -- ---- the public entry
 -- 20, 21 node, 21 schema, 22, then the work
 abbrev pub soundOr : Fault → Begun → Begun
-soundOr Sound rest = rest
-soundOr (Bad table n) rest = Answered (badTable table n)
+soundOr f rest = onFault f (λ table n. Answered (badTable table n)) rest
 
 unfoldable pub begunOf : Tables → ℕ → ℕ → ℕ → ℕ → Begun
 begunOf T n s i k =

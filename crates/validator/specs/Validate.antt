@@ -13,8 +13,7 @@ use Rattle.error.specs.Paths.{levels, Step, instanceBuffer, schemaBuffer}
 use Rattle.layout.specs.Layout.{Tables, nodeCount, schemaCount}
 use Rattle.lookup.specs.Lookup.{findIn, answerOfPattern}
 use Rattle.tables.specs.declared.check.Fault.{Fault}
-use Rattle.tables.specs.declared.check.Fault.the-variants.{Sound, Bad}
-use Rattle.tables.specs.Check.{tablesFault}
+use Rattle.tables.specs.Check.{onFault, tablesFault}
 use Rattle.schema.specs.Look.{wordsOf, look}
 use Rattle.validator.specs.Outcome.{Error, Outcome, accepted, refused, invalid, ended}
 use Rattle.validator.specs.Visit.{visitAt}
@@ -53,8 +52,7 @@ answered (invalid steps) i k = leaving (refusalOf 14 NONE NONE NONE Empty (lengt
 answered (ended number) i k = emptyHanded (plainAnswer number) i k
 
 abbrev pub checkedFirst : Fault → ℕ → ℕ → Validated → Validated
-checkedFirst Sound i k rest = rest
-checkedFirst (Bad table n) i k rest = emptyHanded (badTable table n) i k
+checkedFirst f i k rest = onFault f (λ table n. emptyHanded (badTable table n) i k) rest
 
 -- for buffers of i and k words
 unfoldable pub validateOf : Tables → Mode → ℕ → ℕ → ℕ → ℕ → Validated
