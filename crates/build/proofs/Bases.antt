@@ -20,7 +20,8 @@ use Rattle.build.specs.declared.Many.{Many}
 use Rattle.put.specs.Chase.{isFresh, num, next, chaseAt, weaveAt, topAt}
 use Rattle.put.specs.declared.Lead.{Lead}
 use Rattle.put.specs.declared.Lead.the-variants.{Leaf, Refuse, Node}
-use Rattle.put.proofs.Weave.{next-most, span-length}
+use Rattle.merge.proofs.Lists.{span-length}
+use Rattle.put.proofs.Weave.{next-most}
 use Rattle.build.proofs.Build.{leaf-sane, outs-many, outs-stop, refused-built}
 
 -- the stack holds all the numbers, or one is a leaf

@@ -18,7 +18,7 @@ use Rattle.derive.specs.Meets.{outOf, Ready, Ran, Built, Finished}
 use Rattle.put.specs.Meets.{Listed}
 use Rattle.build.specs.Meets.{outsOf, One, Each, Perhaps}
 use Rattle.put.specs.Chase.{chaseIn, chaseAt, isFresh, num, next, weaveAt, topAt}
-use Rattle.compilation.specs.Table.{isEager, isBuilt, onFound, field, span, after, eachOver, groupAt, arrayAt, optional, nodeAt, compileAt}
+use Rattle.compilation.specs.Table.{isEager, isBuilt, onFound, field, span, after, eachOver, groupAt, arrayAt, perhapsAt, nodeAt, compileAt}
 use Rattle.error.specs.declared.Used.{Used}
 use Rattle.derive.specs.declared.Made.{Made}
 use Rattle.build.specs.declared.Many.{Many}
@@ -27,8 +27,10 @@ use Rattle.lookup.specs.declared.Found.the-variants.{At, Nothing}
 use Rattle.put.specs.declared.Lead.{Lead}
 use Rattle.put.specs.declared.Lead.the-variants.{Leaf, Refuse, Node}
 pub use Rattle.derive.proofs.Build.{out-done, out-refused, ran-none, source-same, links-done, links-full, refused-built, built-is}
-pub use Rattle.put.proofs.Laid.{finish-built, listed-small}
-use Rattle.put.proofs.Weave.{span-snoc, span-length, weave-length, weave-snoc, weave-kept, top-snoc, part-same, next-least}
+use Rattle.merge.proofs.Lists.{part-same, span-length}
+use Rattle.derive.proofs.Rows.{finish-built}
+pub use Rattle.put.proofs.Laid.{listed-small}
+use Rattle.put.proofs.Weave.{span-snoc, weave-length, weave-snoc, weave-kept, top-snoc, next-least}
 
 -- answers
 pub outs-many : (r : Many) (N S L ns : List ℕ) → r .no ≡ 0 → outsOf r N S L ns ≡ many (stateOf (r .used) N S L) ns
@@ -297,7 +299,7 @@ module _ (P T R : List ℕ) (b u : Used) (N S L X X′ : List ℕ) (sp : ℕ) (C
   unfolding groupAt
   group-done z L′ S′ kind note e0 e1 h r f =
       let v : Used = record { notes = m .used .notes; schemas = m .used .schemas; links = m .used .links + count } in
-      finish-built P T R b u v N S S′ L L′ _ r f (groupAt C (compileAt C below) st s) C X X′ sp rd
+      finish-built P T R b u v N S S′ L′ _ r f (groupAt C (compileAt C below) st s) C X X′ sp rd
       (record {
         source = source-same P T R b (m .used) N N S S L L′ (omega (arith, rd .notes, ea .ran .notes)) (omega (arith, rd .schemas, ea .ran .schemas)) (omega (arith, rd .links, ea .ran .links)) refl refl (h .kept) refl refl (h .long) ∙ ea .ran .source;
         stack = ea .ran .stack;
@@ -308,7 +310,7 @@ module _ (P T R : List ℕ) (b u : Used) (N S L X X′ : List ℕ) (sp : ℕ) (C
       })
       (rw (many-at z, links-done C (m .used) N S L L′ count numbers numbers-count links-lent-at (sym (h .yes)) (woven L′ true h .grown refl), e0, e1, e3))
 
-module _ (P T R : List ℕ) (b u : Used) (N S L X X′ : List ℕ) (sp : ℕ) (C : Source) (below s items : ℕ) (st : State) (a : Made) (pe : Perhaps (optional (compileAt C below) st items) C (sourceOf P T R b N S L) u N S L X X′ sp a) (rd : Ready b u X sp) (e2 : items ≡ field C s 2) where
+module _ (P T R : List ℕ) (b u : Used) (N S L X X′ : List ℕ) (sp : ℕ) (C : Source) (below s items : ℕ) (st : State) (a : Made) (pe : Perhaps (perhapsAt (compileAt C below) st items) C (sourceOf P T R b N S L) u N S L X X′ sp a) (rd : Ready b u X sp) (e2 : items ≡ field C s 2) where
   pub array-stop : (a .no ≡ 0 → ⊥) → Built (arrayAt C (compileAt C below) st s) C (sourceOf P T R b N S L) u N S L X X′ sp (record { no = a .no; rec = 0; fresh = false; used = a .used })
   unfolding arrayAt
   array-stop z =
@@ -318,7 +320,7 @@ module _ (P T R : List ℕ) (b u : Used) (N S L X X′ : List ℕ) (sp : ℕ) (C
   pub array-done : a .no ≡ 0 → (S′ : List ℕ) (kind note least most unique : ℕ) → kind ≡ field C s 0 → note ≡ field C s 1 → least ≡ field C s 3 → most ≡ field C s 4 → unique ≡ field C s 5 → (r : Made) → Finished S S′ (a .used) (kind ∷ note ∷ a .rec ∷ least ∷ most ∷ unique ∷ 0 ∷ 0 ∷ 0 ∷ 0 ∷ 0 ∷ 0 ∷ 0 ∷ 0 ∷ 0 ∷ 0 ∷ []) r → Built (arrayAt C (compileAt C below) st s) C (sourceOf P T R b N S′ L) u N S′ L X X′ sp r
   unfolding arrayAt
   array-done z S′ kind note least most unique e0 e1 e3 e4 e5 r f =
-      finish-built P T R b u (a .used) N S S′ L L _ r f (arrayAt C (compileAt C below) st s) C X X′ sp rd (pe .ran)
+      finish-built P T R b u (a .used) N S S′ L _ r f (arrayAt C (compileAt C below) st s) C X X′ sp rd (pe .ran)
       (rw (← e2, sym (pe .answer) ∙ out-done a N S L z, e0, e1, e3, e4, e5))
 
 -- the node by its kind
@@ -368,14 +370,14 @@ module _ (b u : Used) (N S L X : List ℕ) (sp : ℕ) (C : Source) (level s : �
         number = λ _. rw w;
       }
 
-pub perhaps-none : (b u : Used) (N S L X : List ℕ) (sp : ℕ) (C : Source) (level s : ℕ) → Ready b u X sp → s ≡ 4294967295 → Perhaps (optional (compileAt C level) (stateOf u N S L) s) C C u N S L X X sp (record { no = 0; rec = s; fresh = false; used = u })
+pub perhaps-none : (b u : Used) (N S L X : List ℕ) (sp : ℕ) (C : Source) (level s : ℕ) → Ready b u X sp → s ≡ 4294967295 → Perhaps (perhapsAt (compileAt C level) (stateOf u N S L) s) C C u N S L X X sp (record { no = 0; rec = s; fresh = false; used = u })
 perhaps-none b u N S L X sp C level s rd h =
     record {
       answer = out-done (record { no = 0; rec = s; fresh = false; used = u }) N S L refl ∙ rw h;
       ran = ran-none C u X sp (rd .most);
     }
 
-pub perhaps-one : (u : Used) (N S L X X′ : List ℕ) (sp : ℕ) (C C′ : Source) (level s : ℕ) (st : State) (r : Made) → (s ≡ 4294967295 → ⊥) → One C C′ level s st u N S L X X′ sp r → Perhaps (optional (compileAt C level) st s) C C′ u N S L X X′ sp r
+pub perhaps-one : (u : Used) (N S L X X′ : List ℕ) (sp : ℕ) (C C′ : Source) (level s : ℕ) (st : State) (r : Made) → (s ≡ 4294967295 → ⊥) → One C C′ level s st u N S L X X′ sp r → Perhaps (perhapsAt (compileAt C level) st s) C C′ u N S L X X′ sp r
 perhaps-one u N S L X X′ sp C C′ level s st r h o =
     record {
       answer = o .answer ∙ rw (ne-eqb s 4294967295 h);

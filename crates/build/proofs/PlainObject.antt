@@ -13,12 +13,13 @@ use Rattle.derive.specs.Meets.{outOf, Ready, Ran, Built}
 use Rattle.put.specs.Meets.{laidAt, valuesAt, Laid, LayReady}
 use Rattle.build.specs.Meets.{outsOf, Each, Perhaps}
 use Rattle.put.specs.Chase.{chaseAt, weaveAt, topAt}
-use Rattle.compilation.specs.Table.{field, span, eachOver, optional, plainAt, derivedAt, nodeAt, compileAt}
+use Rattle.compilation.specs.Table.{field, span, eachOver, perhapsAt, plainAt, derivedAt, nodeAt, compileAt}
 use Rattle.error.specs.declared.Used.{Used}
 use Rattle.derive.specs.declared.Made.{Made}
 use Rattle.build.specs.declared.Many.{Many}
 use Rattle.put.specs.declared.Lead.{Lead}
-use Rattle.put.proofs.Weave.{part-same, top-least, weave-kept}
+use Rattle.merge.proofs.Lists.{part-same}
+use Rattle.put.proofs.Weave.{top-least, weave-kept}
 use Rattle.build.proofs.Build.{out-done, out-refused, outs-many, outs-stop, refused-built}
 
 -- one thing run after another
@@ -116,16 +117,16 @@ module _ (P T R : List ℕ) (b u : Used) (X : List ℕ) (sp : ℕ) (C : Source) 
         over : m .top ≤ n .top
         over = omega (arith, upper-is, top-least f others (m .top))
 
-        module _ (item : ℕ) (e6 : item ≡ field C s 6) (N₃ S₃ L₃ X₃ : List ℕ) (a : Made) (pa : Perhaps (optional (compileAt C₂ below) (stateOf (n .used) N₂ S₂ L₂) item) C₂ (sourceOf P T R b N₃ S₃ L₃) (n .used) N₃ S₃ L₃ X₂ X₃ (n .top) a) where
+        module _ (item : ℕ) (e6 : item ≡ field C s 6) (N₃ S₃ L₃ X₃ : List ℕ) (a : Made) (pa : Perhaps (perhapsAt (compileAt C₂ below) (stateOf (n .used) N₂ S₂ L₂) item) C₂ (sourceOf P T R b N₃ S₃ L₃) (n .used) N₃ S₃ L₃ X₂ X₃ (n .top) a) where
           abbrev C₃ : Source
           C₃ = sourceOf P T R b N₃ S₃ L₃
 
           ran₃ : Ran C C₃ u (a .used) X X₃ sp
           ran₃ = ran-then C C₂ C₃ u (n .used) (a .used) X X₂ X₃ sp (n .top) (omega (arith, above, over)) ran₂ (pa .ran)
 
-          additional-answer : outOf a N₃ S₃ L₃ ≡ optional (compileAt C below) (stateOf (n .used) N₂ S₂ L₂) (field C s 6)
+          additional-answer : outOf a N₃ S₃ L₃ ≡ perhapsAt (compileAt C below) (stateOf (n .used) N₂ S₂ L₂) (field C s 6)
           additional-answer =
-              rw (← e6) (subst (λ (D : Source). outOf a N₃ S₃ L₃ ≡ optional (compileAt D below) (stateOf (n .used) N₂ S₂ L₂) item) (ran₂ .source) (pa .answer))
+              rw (← e6) (subst (λ (D : Source). outOf a N₃ S₃ L₃ ≡ perhapsAt (compileAt D below) (stateOf (n .used) N₂ S₂ L₂) item) (ran₂ .source) (pa .answer))
 
           pub plain-no-additional : (a .no ≡ 0 → ⊥) → Built whole C C₃ u N₃ S₃ L₃ X X₃ sp (record { no = a .no; rec = 0; fresh = false; used = a .used })
           unfolding plainAt
@@ -136,19 +137,19 @@ module _ (P T R : List ℕ) (b u : Used) (X : List ℕ) (sp : ℕ) (C : Source) 
             pub plain-ready₃ : length X₃ ≡ length X₂ → length X₂ ≡ length X₁ → length X₁ ≡ length X → Ready b (a .used) X₃ (n .top)
             plain-ready₃ j k l = ready-then C C₃ b u (a .used) X X₃ sp (n .top) rd ran₃ (j ∙ k ∙ l) (omega (arith, eb .low w, pa .ran .schemas))
 
-            additional-done : optional (compileAt C below) (stateOf (n .used) N₂ S₂ L₂) (field C s 6) ≡ done (stateOf (a .used) N₃ S₃ L₃) (a .rec)
+            additional-done : perhapsAt (compileAt C below) (stateOf (n .used) N₂ S₂ L₂) (field C s 6) ≡ done (stateOf (a .used) N₃ S₃ L₃) (a .rec)
             additional-done = sym additional-answer ∙ out-done a N₃ S₃ L₃ v
 
-            module _ (name : ℕ) (e12 : name ≡ field C s 12) (N₄ S₄ L₄ X₄ : List ℕ) (d : Made) (pd : Perhaps (optional (compileAt C₃ below) (stateOf (a .used) N₃ S₃ L₃) name) C₃ (sourceOf P T R b N₄ S₄ L₄) (a .used) N₄ S₄ L₄ X₃ X₄ (n .top) d) where
+            module _ (name : ℕ) (e12 : name ≡ field C s 12) (N₄ S₄ L₄ X₄ : List ℕ) (d : Made) (pd : Perhaps (perhapsAt (compileAt C₃ below) (stateOf (a .used) N₃ S₃ L₃) name) C₃ (sourceOf P T R b N₄ S₄ L₄) (a .used) N₄ S₄ L₄ X₃ X₄ (n .top) d) where
               abbrev C₄ : Source
               C₄ = sourceOf P T R b N₄ S₄ L₄
 
               ran₄ : Ran C C₄ u (d .used) X X₄ sp
               ran₄ = ran-then C C₃ C₄ u (a .used) (d .used) X X₃ X₄ sp (n .top) (omega (arith, above, over)) ran₃ (pd .ran)
 
-              names-answer : outOf d N₄ S₄ L₄ ≡ optional (compileAt C below) (stateOf (a .used) N₃ S₃ L₃) (field C s 12)
+              names-answer : outOf d N₄ S₄ L₄ ≡ perhapsAt (compileAt C below) (stateOf (a .used) N₃ S₃ L₃) (field C s 12)
               names-answer =
-                  rw (← e12) (subst (λ (D : Source). outOf d N₄ S₄ L₄ ≡ optional (compileAt D below) (stateOf (a .used) N₃ S₃ L₃) name) (ran₃ .source) (pd .answer))
+                  rw (← e12) (subst (λ (D : Source). outOf d N₄ S₄ L₄ ≡ perhapsAt (compileAt D below) (stateOf (a .used) N₃ S₃ L₃) name) (ran₃ .source) (pd .answer))
 
               pub plain-no-names : (d .no ≡ 0 → ⊥) → Built whole C C₄ u N₄ S₄ L₄ X X₄ sp (record { no = d .no; rec = 0; fresh = false; used = d .used })
               unfolding plainAt
@@ -163,7 +164,7 @@ module _ (P T R : List ℕ) (b u : Used) (X : List ℕ) (sp : ℕ) (C : Source) 
                       middle = omega (arith, ea .low z, ea .ran .most);
                     }
 
-                names-done : optional (compileAt C below) (stateOf (a .used) N₃ S₃ L₃) (field C s 12) ≡ done (stateOf (d .used) N₄ S₄ L₄) (d .rec)
+                names-done : perhapsAt (compileAt C below) (stateOf (a .used) N₃ S₃ L₃) (field C s 12) ≡ done (stateOf (d .used) N₄ S₄ L₄) (d .rec)
                 names-done = sym names-answer ∙ out-done d N₄ S₄ L₄ x
 
                 laid-is : whole ≡ laidAt C (stateOf (d .used) N₄ S₄ L₄) s ps qs (a .rec) (d .rec)

@@ -6,6 +6,7 @@ use mathlib.Core.List.{List}
 use lib.ListN.{length}
 use lib.Dec.{eqb}
 use Rattle.text.specs.Choice.{pick}
+use Rattle.layout.specs.Layout.{mostSchemas}
 use Rattle.compilation.specs.State.{Source, State, Out, Outs, many, stop, stateOf}
 use Rattle.compilation.specs.Table.{compileAt, eachOver}
 use Rattle.derive.specs.Meets.{outOf, Ready, Ran}
@@ -39,7 +40,7 @@ pub record Each (C C′ : Source) (below : ℕ) (st : State) (items : List ℕ) 
   pub low : r .no ≡ 0 → r .top ≤ r .used .schemas
 
 pub record Pushable (fresh : Bool) (top : ℕ) (X : List ℕ) : Type 0 where
-  pub most : top ≤ 4096
+  pub most : top ≤ mostSchemas
   pub free : fresh ≡ true → top < length X
 
 pub record EachReady (b u : Used) (X : List ℕ) (sp at step : ℕ) : Type 0 where

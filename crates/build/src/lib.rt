@@ -5,7 +5,7 @@ ghost use lib.ListN.{set, take};
 ghost use Rattle.text.specs.Choice.{pick};
 ghost use Rattle.merge.specs.Pairs.{span};
 ghost use Rattle.compilation.specs.State.{sourceOf, stateOf};
-ghost use Rattle.compilation.specs.Table.{compileAt, groupAt, arrayAt, nodeAt, optional, derivedAt, plainAt};
+ghost use Rattle.compilation.specs.Table.{compileAt, groupAt, arrayAt, nodeAt, perhapsAt, derivedAt, plainAt};
 ghost use Rattle.derive.specs.Meets.{Ready, Built};
 ghost use Rattle.put.specs.Chase.{next};
 ghost use Rattle.build.specs.Meets.{One, Each, Perhaps, Pushable, EachReady};
@@ -583,7 +583,7 @@ fn perhaps(
     sp: u32,
 ) -> Made
     requires { ⌜ Ready base used (now stack) sp ⌝ }
-    ensures { λ r. ⌜ Perhaps (optional (compileAt (sourceOf (now (pool .entry)) (now (texts .entry)) (now (registry .entry)) base (now (notes .entry)) (now (schemas .entry)) (now (links .entry))) level) (stateOf used (now (notes .entry)) (now (schemas .entry)) (now (links .entry))) s) (sourceOf (now (pool .entry)) (now (texts .entry)) (now (registry .entry)) base (now (notes .entry)) (now (schemas .entry)) (now (links .entry))) (sourceOf (now (pool .entry)) (now (texts .entry)) (now (registry .entry)) base (now (notes .exit)) (now (schemas .exit)) (now (links .exit))) used (now (notes .exit)) (now (schemas .exit)) (now (links .exit)) (now (stack .entry)) (now (stack .exit)) sp r ⌝ }
+    ensures { λ r. ⌜ Perhaps (perhapsAt (compileAt (sourceOf (now (pool .entry)) (now (texts .entry)) (now (registry .entry)) base (now (notes .entry)) (now (schemas .entry)) (now (links .entry))) level) (stateOf used (now (notes .entry)) (now (schemas .entry)) (now (links .entry))) s) (sourceOf (now (pool .entry)) (now (texts .entry)) (now (registry .entry)) base (now (notes .entry)) (now (schemas .entry)) (now (links .entry))) (sourceOf (now (pool .entry)) (now (texts .entry)) (now (registry .entry)) base (now (notes .exit)) (now (schemas .exit)) (now (links .exit))) used (now (notes .exit)) (now (schemas .exit)) (now (links .exit)) (now (stack .entry)) (now (stack .exit)) sp r ⌝ }
 {
     if s == NONE {
         return Made {

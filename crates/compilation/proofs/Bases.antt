@@ -11,33 +11,35 @@ use lib.Dec.{eqb, leb}
 use borrow.Author.Tests.{eqb-true}
 use Rattle.text.specs.Choice.{pick, true-or-false}
 use Rattle.text.specs.Text.{sameText}
-use Rattle.layout.specs.Layout.{NONE, schemaKind, schemaNote, propertiesFirst, propertiesCount, patternPropertiesFirst, patternPropertiesCount, additionalProperties, objectClosed, propertyNames, noteWord as noteWordAt}
+use Rattle.layout.specs.Layout.{NONE, schemaKind, schemaNote, propertiesFirst, propertiesCount, patternPropertiesFirst, patternPropertiesCount, additionalProperties, objectClosed, propertyNames, noteWord}
 use Rattle.schema.specs.Shape.{Own, nameless, detects, named, Object, Shape, plain}
 use Rattle.schema.specs.Look.{Words, noteAt, noteDetects, ownOf, objectOf, raw, detecting, sortNames}
 use Rattle.merge.specs.Merge.{putAll, _⊕_, counting, Gathered, start, gather, noteOf, derive, descriptionOf}
-use Rattle.merge.specs.Pairs.{pairsAt, listOf}
+use Rattle.merge.specs.Pairs.{recordPairs}
+use Rattle.merge.proofs.Lists.{pairs-are}
 use Rattle.joins.specs.Joins.{noteField, detectsCase, offerOf, keepOne, requiredOf, joined, offeredOf, noOffers, tally, closedOf}
-use Rattle.joins.proofs.Gathered.{pairs-from, listed, listed-join, keep-listed, objects, gather-props, gather-patterns, gather-required, gather-additional, gather-names}
+use Rattle.joins.proofs.Laws.{one-n, tally-n}
+use Rattle.joins.proofs.Gathered.{listed, listed-join, keep-listed, objects, gather-props, gather-patterns, gather-required, gather-additional, gather-names}
 use Rattle.compilation.specs.State.{Source, State}
-use Rattle.compilation.specs.Table.{field, noteWord, mergedNote, mergedNoteIn, mergedPairs, offersAt, joinLinksAt, requiredAt, mergeAt}
+use Rattle.compilation.specs.Table.{field, mergedNote, mergedNoteIn, mergedPairs, offersAt, joinLinksAt, requiredAt, mergeAt}
 use Rattle.compilation.specs.Compile.{Room, noteWordsOf, addMerged}
 use Rattle.compilation.proofs.Grows.{Grown}
 use Rattle.compilation.proofs.Same.{wordsIn, Same, same-as, Rooms}
 use Rattle.compilation.proofs.Looked.{seen}
-use Rattle.compilation.proofs.Joined.{readNote, lastOr, last-append, laid, join-laid, one-n, one-last, tally-n, tally-last, gather-closed, gathered-note}
+use Rattle.compilation.proofs.Joined.{readNote, lastOr, last-append, laid, join-laid, one-last, tally-last, gather-closed, gathered-note}
 use Rattle.compilation.proofs.Merged.{merged-from, merged-parts, mergedAt, merged-links, merged-same}
 
 -- what the source says of an object
 pub record Says (C : Source) (s : ℕ) (o : Object ℕ) : Type 0 where
-  pub props : o .props ≡ listOf (C .schemas) (C .links) 2 s
-  pub patterns : o .patterns ≡ listOf (C .schemas) (C .links) 4 s
+  pub props : o .props ≡ recordPairs (C .schemas) (C .links) 2 s
+  pub patterns : o .patterns ≡ recordPairs (C .schemas) (C .links) 4 s
   pub additional : o .additional ≡ listed (keepOne (field C s 6))
   pub required : o .required ≡ requiredOf (C .schemas) (C .links) s
   pub least : o .least ≡ field C s 9
   pub most : o .most ≡ field C s 10
   pub closed : o .closed ≡ eqb (field C s 11) 1
   pub naming : o .naming ≡ field C s 13
-  pub description : descriptionOf (o .note) ≡ noteWord (C .notes) (C .schemas) s 1
+  pub description : descriptionOf (o .note) ≡ noteField (C .notes) (C .schemas) s 1
 
 -- only a string schema detects case
 no-detecting : (w : Own) (x1 x2 x3 x4 x5 : Shape ℕ) → eqb (w .kind) 3 ≡ false → detecting x1 ≡ false → detecting x2 ≡ false → detecting x3 ≡ false → detecting x4 ≡ false → detecting x5 ≡ false → (a b c d e : Bool) → detecting (pick a (plain w) (pick b x1 (pick c x2 (pick d x3 (pick e x4 x5))))) ≡ false
@@ -68,13 +70,13 @@ names-offered f w c e = choose (eqb w NONE) refl
 
 -- what a base's record says
 module _ (t : Words) (b : ℕ) where
-  pub seen-props : seen t b .props ≡ listOf (t .schemas) (t .links) 2 b
-  unfolding objectOf listOf
-  seen-props = pairs-from (t .links) (propertiesFirst (t .schemas) b) 0 (propertiesCount (t .schemas) b) ∙ ap (λ (i : ℕ). pairsAt (t .links) i (propertiesCount (t .schemas) b)) (omega arith)
+  pub seen-props : seen t b .props ≡ recordPairs (t .schemas) (t .links) 2 b
+  unfolding objectOf recordPairs
+  seen-props = pairs-are (t .links) (propertiesFirst (t .schemas) b) (propertiesCount (t .schemas) b)
 
-  pub seen-patterns : seen t b .patterns ≡ listOf (t .schemas) (t .links) 4 b
-  unfolding objectOf listOf
-  seen-patterns = pairs-from (t .links) (patternPropertiesFirst (t .schemas) b) 0 (patternPropertiesCount (t .schemas) b) ∙ ap (λ (i : ℕ). pairsAt (t .links) i (patternPropertiesCount (t .schemas) b)) (omega arith)
+  pub seen-patterns : seen t b .patterns ≡ recordPairs (t .schemas) (t .links) 4 b
+  unfolding objectOf recordPairs
+  seen-patterns = pairs-are (t .links) (patternPropertiesFirst (t .schemas) b) (patternPropertiesCount (t .schemas) b)
 
   seen-required : seen t b .required ≡ requiredOf (t .schemas) (t .links) b
   unfolding objectOf requiredOf
@@ -94,10 +96,10 @@ module _ (t : Words) (b : ℕ) where
 
   -- "a string schema with case-detection"
   note-detects : noteDetects (noteAt (t .notes) (schemaNote (t .schemas) b)) ≡ eqb (noteField (t .notes) (t .schemas) b 8) 1
-  unfolding noteAt noteField noteWordAt
+  unfolding noteAt noteField noteWord
   note-detects = choose (eqb (schemaNote (t .schemas) b) NONE)
     where
-      choose : (c : Bool) → noteDetects (pick c none (some (readNote (t .notes) (schemaNote (t .schemas) b)))) ≡ eqb (pick c NONE (noteWordAt (t .notes) (schemaNote (t .schemas) b) 8)) 1
+      choose : (c : Bool) → noteDetects (pick c none (some (readNote (t .notes) (schemaNote (t .schemas) b)))) ≡ eqb (pick c NONE (noteWord (t .notes) (schemaNote (t .schemas) b) 8)) 1
       choose true = refl
       choose false = refl
 
@@ -143,11 +145,11 @@ module _ {C : Source} {R : Room} (rooms : Rooms C R) (find : ℕ → Option ℕ)
   -- the parts of the merged object
   props-are : putAll same (all .props) (d .props) ≡ mergedPairs C st s bs 2
   unfolding mergedPairs
-  props-are = rw (gather-props same (seen t) (listOf (st .schemas) (st .links) 2) (λ b. seen-props t b) start bs, says .props)
+  props-are = rw (gather-props same (seen t) (recordPairs (st .schemas) (st .links) 2) (λ b. seen-props t b) start bs, says .props)
 
   patterns-are : putAll same (all .patterns) (d .patterns) ≡ mergedPairs C st s bs 4
   unfolding mergedPairs
-  patterns-are = rw (gather-patterns same (seen t) (listOf (st .schemas) (st .links) 4) (λ b. seen-patterns t b) start bs, says .patterns)
+  patterns-are = rw (gather-patterns same (seen t) (recordPairs (st .schemas) (st .links) 4) (λ b. seen-patterns t b) start bs, says .patterns)
 
   required-is : all .required ++ d .required ≡ requiredAt C st s bs
   required-is = rw (gather-required same (seen t) (requiredOf (st .schemas) (st .links)) (λ b. seen-required t b) start bs, says .required)

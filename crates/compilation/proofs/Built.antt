@@ -10,21 +10,22 @@ use lib.Dec.{eqb}
 use borrow.Author.Tests.{ne-eqb, eqb-false}
 use Rattle.text.specs.Choice.{pick}
 use Rattle.text.specs.Text.{sameText}
-use Rattle.layout.specs.Layout.{NONE, schemaWord, schemaNote, arrayItems, additionalProperties, propertyNames, requiredFirst, requiredCount, objectMinimum, objectMaximum, objectClosed, namingConvention, basesFirst, basesCount, pairValue, noteCount, noteWord as noteWordAt}
+use Rattle.layout.specs.Layout.{NONE, schemaWord, schemaNote, arrayItems, additionalProperties, propertyNames, requiredFirst, requiredCount, objectMinimum, objectMaximum, objectClosed, namingConvention, basesFirst, basesCount, pairValue, noteCount, noteWord}
 use Rattle.layout.specs.Rows.{arrayRow, objectRow}
 use Rattle.tables.proofs.Facts.{Optional, present, ListIn, PairsIn, ObjectFacts}
 use Rattle.schema.specs.Shape.{Pair, Object}
-use Rattle.schema.specs.Look.{Words, slice, noteAt, listOf as linksOf, objectOf}
+use Rattle.schema.specs.Look.{Words, slice, noteAt, listOf, objectOf}
 use Rattle.merge.specs.Merge.{descriptionOf}
-use Rattle.merge.specs.Pairs.{pairsAt, flatPairs, listOf, span}
-use Rattle.joins.specs.Joins.{requiredOf}
-use Rattle.joins.proofs.Gathered.{keep-listed, span-slice, objects}
+use Rattle.merge.specs.Pairs.{pairsAt, flatPairs, recordPairs, span}
+use Rattle.joins.specs.Joins.{noteField, requiredOf}
+use Rattle.merge.proofs.Lists.{span-length, span-slice}
+use Rattle.joins.proofs.Gathered.{keep-listed, objects}
 use Rattle.compilation.specs.State.{Source, State, Out, refused, andThen, addLinks, addSchema}
-use Rattle.compilation.specs.Table.{field, noteWord, groupAt, optional, arrayAt, allObjects, mergeAt, weld, plainAt, derivedAt}
+use Rattle.compilation.specs.Table.{field, groupAt, arrayAt, allObjects, mergeAt, perhapsAt, weld, plainAt, derivedAt}
 use Rattle.compilation.specs.Compile.{Result, then, Room, addRow as appendRow, addList, addArray, addObject, each, eachPair, optionally, mergeFrom, objectsOf, looks}
 use Rattle.compilation.proofs.Grows.{Grown, word-same, slice-same, pairs-same}
 use Rattle.compilation.proofs.Same.{wordsIn, Same, stopped, same-then, same-as, Rooms, schema-added, links-added, list-added}
-use Rattle.compilation.proofs.Children.{Below, span-below, span-length, many-then, pairs-then, Follows, each-same, each-pair-same, optional-same}
+use Rattle.compilation.proofs.Children.{Below, span-below, many-then, pairs-then, Follows, each-same, each-pair-same, optional-same}
 use Rattle.compilation.proofs.Looked.{seen, objects-all, objects-none}
 use Rattle.compilation.proofs.Joined.{readNote}
 use Rattle.compilation.proofs.Bases.{Says, seen-props, seen-patterns, bases-merged}
@@ -51,12 +52,12 @@ module _ {C : Source} (whole : length (C .schemas) ≡ C .count * 16) (s : ℕ) 
   pub list-read : {st : State} → Grown C st → (k : ℕ) → k < 15 → field C s k + field C s (k + 1) ≤ length (C .links) → slice (st .links) (schemaWord (st .schemas) s k) (schemaWord (st .schemas) s (k + 1)) ≡ slice (C .links) (field C s k) (field C s (k + 1))
   list-read {st} g k l i = rw (word g k (omega arith), word g (k + 1) (omega arith)) (slice-same (g .links) (field C s k) (field C s (k + 1)) i)
 
-  pub pairs-read : {st : State} → Grown C st → (k : ℕ) → k < 15 → field C s k + field C s (k + 1) * 2 ≤ length (C .links) → listOf (st .schemas) (st .links) k s ≡ listOf (C .schemas) (C .links) k s
-  unfolding listOf
+  pub pairs-read : {st : State} → Grown C st → (k : ℕ) → k < 15 → field C s k + field C s (k + 1) * 2 ≤ length (C .links) → recordPairs (st .schemas) (st .links) k s ≡ recordPairs (C .schemas) (C .links) k s
+  unfolding recordPairs
   pairs-read {st} g k l i = rw (word g k (omega arith), word g (k + 1) (omega arith)) (pairs-same (g .links) (field C s k) (field C s (k + 1)) i)
 
-  description-read : {st : State} → Grown C st → Optional (field C s 1) (noteCount (C .notes)) → descriptionOf (noteAt (st .notes) (schemaNote (st .schemas) s)) ≡ noteWord (C .notes) (C .schemas) s 1
-  unfolding noteAt noteWord noteWordAt noteCount
+  description-read : {st : State} → Grown C st → Optional (field C s 1) (noteCount (C .notes)) → descriptionOf (noteAt (st .notes) (schemaNote (st .schemas) s)) ≡ noteField (C .notes) (C .schemas) s 1
+  unfolding noteAt noteField noteWord noteCount
   description-read {st} g o = rw (word g 1 (omega arith)) (choose (eqb (field C s 1) NONE) refl)
     where
       choose : (c : Bool) → eqb (field C s 1) NONE ≡ c → descriptionOf (pick c none (some (readNote (st .notes) (field C s 1)))) ≡ pick c NONE (getD (C .notes) (field C s 1 * 9 + 1) 0)
@@ -88,11 +89,11 @@ module _ {C : Source} {R : Room} (rooms : Rooms C R) (find : ℕ → Option ℕ)
   t = wordsIn st
 
   -- anyOf and allOf
-  pub group-same : (kind : ℕ) → field C s 0 ≡ kind → ListIn (C .links) (field C s 2) (field C s 3) s → Same C (groupAt C go st s) (then (each R same find to (linksOf t s) t) (λ ys t₁. addList R same find kind (schemaNote (t₁ .schemas) s) ys t₁))
+  pub group-same : (kind : ℕ) → field C s 0 ≡ kind → ListIn (C .links) (field C s 2) (field C s 3) s → Same C (groupAt C go st s) (then (each R same find to (listOf t s) t) (λ ys t₁. addList R same find kind (schemaNote (t₁ .schemas) s) ys t₁))
   unfolding groupAt
   group-same kind e l =
       let xs : List ℕ = span (C .links) (field C s 2) 1 (field C s 3) in
-      let read : linksOf t s ≡ xs = list-read whole s h g 2 (omega arith) (l .inside) ∙ sym (span-slice (C .links) (field C s 2) (field C s 3)) in
+      let read : listOf t s ≡ xs = list-read whole s h g 2 (omega arith) (l .inside) ∙ sym (span-slice (C .links) (field C s 2) (field C s 3)) in
       same-as refl (ap (λ (x : List ℕ). then (each R same find to x t) (λ ys t₁. addList R same find kind (schemaNote (t₁ .schemas) s) ys t₁)) read)
       (many-then _ _ (each-same R same find go to follows (list-below l (omega arith)) st g) (λ st₁ ns g₁ n.
       rw (word whole s h g₁ 1 (omega arith), ← e)
@@ -127,11 +128,11 @@ module _ {C : Source} {R : Room} (rooms : Rooms C R) (find : ℕ → Option ℕ)
         (same-then _ _ (links-added rooms same find st₁ g₁ (flatPairs ps)) (λ st₂ at g₂.
         same-then _ _ (links-added rooms same find st₂ g₂ (flatPairs qs)) (λ st₃ on g₃. row-same st₃ g₃ at on additional names)))
 
-    names-same : (names : ℕ) → names ≡ field C s 12 → Optional (field C s 12) s → (st₁ : State) → Grown C st₁ → (additional : ℕ) → Same C (andThen (optional go st₁ (field C s 12)) (λ st₂ n. appended st₂ additional n)) (then (optionally R same find to names (wordsIn st₁)) (λ n t₁. addObject R same find s ps qs additional n t₁))
+    names-same : (names : ℕ) → names ≡ field C s 12 → Optional (field C s 12) s → (st₁ : State) → Grown C st₁ → (additional : ℕ) → Same C (andThen (perhapsAt go st₁ (field C s 12)) (λ st₂ n. appended st₂ additional n)) (then (optionally R same find to names (wordsIn st₁)) (λ n t₁. addObject R same find s ps qs additional n t₁))
     names-same names e o st₁ g₁ additional =
         rw e (same-then _ _ (optional-same R same find go to follows (field C s 12) (λ z. omega (arith, present o z)) st₁ g₁) (λ st₂ n g₂. appended-same st₂ g₂ additional n))
 
-    additional-same : (additional : ℕ) → additional ≡ field C s 6 → Optional (field C s 6) s → Optional (field C s 12) s → (st₁ : State) → Grown C st₁ → Same C (andThen (optional go st₁ (field C s 6)) (λ st₂ a. andThen (optional go st₂ (field C s 12)) (λ st₃ n. appended st₃ a n))) (then (optionally R same find to additional (wordsIn st₁)) (λ a t₁. then (optionally R same find to (propertyNames (t₁ .schemas) s) t₁) (λ n t₂. addObject R same find s ps qs a n t₂)))
+    additional-same : (additional : ℕ) → additional ≡ field C s 6 → Optional (field C s 6) s → Optional (field C s 12) s → (st₁ : State) → Grown C st₁ → Same C (andThen (perhapsAt go st₁ (field C s 6)) (λ st₂ a. andThen (perhapsAt go st₂ (field C s 12)) (λ st₃ n. appended st₃ a n))) (then (optionally R same find to additional (wordsIn st₁)) (λ a t₁. then (optionally R same find to (propertyNames (t₁ .schemas) s) t₁) (λ n t₂. addObject R same find s ps qs a n t₂)))
     additional-same additional e o₁ o₂ st₁ g₁ =
         rw e (same-then _ _ (optional-same R same find go to follows (field C s 6) (λ z. omega (arith, present o₁ z)) st₁ g₁) (λ st₂ a g₂. names-same (propertyNames (st₂ .schemas) s) (word whole s h g₂ 12 (omega arith)) o₂ st₂ g₂ a))
 

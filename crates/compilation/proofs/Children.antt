@@ -15,7 +15,7 @@ use Rattle.schema.specs.Shape.{Pair}
 use Rattle.schema.specs.Look.{Words}
 use Rattle.merge.specs.Pairs.{pair, pairsAt, flatPairs, span}
 use Rattle.compilation.specs.State.{Source, State, Out, done, Outs, many, stop, onMany}
-use Rattle.compilation.specs.Table.{after, onOut, eachOver, optional, weld}
+use Rattle.compilation.specs.Table.{after, onOut, eachOver, perhapsAt, weld}
 use Rattle.compilation.specs.Compile.{Result, ok, refuse, then, Room, each, eachPair, optionally}
 use Rattle.compilation.proofs.Grows.{Grown}
 use Rattle.compilation.proofs.Same.{wordsIn, Same, made, stopped}
@@ -34,11 +34,6 @@ span-below c L at step (suc n) h =
   where
     next : (i : ℕ) → at + suc i * step ≡ at + step + i * step
     next i = omega (arith, suc-mul i step)
-
-pub span-length : (L : List ℕ) (at step n : ℕ) → length (span L at step n) ≡ n
-unfolding span
-span-length L at step zero = refl
-span-length L at step (suc n) = ap suc (span-length L (at + step) step n)
 
 -- several children: the same records and words, or the same refusal
 pub data SameMany (C : Source) (n : ℕ) : Outs → Result (List ℕ) → Type 0 where
@@ -85,16 +80,16 @@ module _ {C : Source} (R : Room) (eq : ℕ → ℕ → Bool) (find : ℕ → Opt
   each-same no-more st g = all-made st [] g refl
   each-same (below {x = x} {xs = xs} l b) st g = on-same (follows st x g l) (λ st₁. eachOver go st₁ xs) (each R eq find to xs) (λ st₁ g₁. each-same b st₁ g₁)
 
-  pairs-from : (L : List ℕ) (n at on : ℕ) → on ≡ at + 1 → Below (C .count) (span L on 2 n) → (st : State) → Grown C st → SamePairs C (span L at 2 n) (eachOver go st (span L on 2 n)) (eachPair R eq find to (pairsAt L at n) (wordsIn st))
+  pairs-onward : (L : List ℕ) (n at on : ℕ) → on ≡ at + 1 → Below (C .count) (span L on 2 n) → (st : State) → Grown C st → SamePairs C (span L at 2 n) (eachOver go st (span L on 2 n)) (eachPair R eq find to (pairsAt L at n) (wordsIn st))
   unfolding eachOver eachPair span pairsAt weld flatPairs
-  pairs-from L zero at on e b st g = all-paired st [] [] g refl refl
-  pairs-from L (suc n) at on e (below l b) st g =
-      rw (← e) (on-pair (getD L at 0) (follows st (getD L on 0) g l) (λ st₁. eachOver go st₁ (span L (on + 2) 2 n)) (eachPair R eq find to (pairsAt L (at + 2) n)) (λ st₁ g₁. pairs-from L n (at + 2) (on + 2) (omega arith) b st₁ g₁))
+  pairs-onward L zero at on e b st g = all-paired st [] [] g refl refl
+  pairs-onward L (suc n) at on e (below l b) st g =
+      rw (← e) (on-pair (getD L at 0) (follows st (getD L on 0) g l) (λ st₁. eachOver go st₁ (span L (on + 2) 2 n)) (eachPair R eq find to (pairsAt L (at + 2) n)) (λ st₁ g₁. pairs-onward L n (at + 2) (on + 2) (omega arith) b st₁ g₁))
 
   pub each-pair-same : (L : List ℕ) (at n : ℕ) → Below (C .count) (span L (at + 1) 2 n) → (st : State) → Grown C st → SamePairs C (span L at 2 n) (eachOver go st (span L (at + 1) 2 n)) (eachPair R eq find to (pairsAt L at n) (wordsIn st))
-  each-pair-same L at n b st g = pairs-from L n at (at + 1) refl b st g
+  each-pair-same L at n b st g = pairs-onward L n at (at + 1) refl b st g
 
-  pub optional-same : (s : ℕ) → ((s ≡ NONE → ⊥) → s < C .count) → (st : State) → Grown C st → Same C (optional go st s) (optionally R eq find to s (wordsIn st))
+  pub optional-same : (s : ℕ) → ((s ≡ NONE → ⊥) → s < C .count) → (st : State) → Grown C st → Same C (perhapsAt go st s) (optionally R eq find to s (wordsIn st))
   unfolding optionally
   optional-same s h st g = choose (eqb s NONE) refl
     where

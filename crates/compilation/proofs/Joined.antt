@@ -5,18 +5,18 @@ use mathlib.Core.Bool.{Bool, true, false, _||_}
 use mathlib.Core.List.{List, [], _∷_, _++_}
 use mathlib.Core.Option.{Option, some, none}
 use native.Mathlib.Omega.{arith}
-use lib.ListN.{length, getD, length-append}
+use lib.ListN.{length, getD}
 use lib.Dec.{eqb, ltb}
 use borrow.Author.Tests.{le-ltb}
 use Rattle.text.specs.Choice.{pick, either}
-use Rattle.layout.specs.Layout.{NONE, schemaNote, objectClosed, noteWord as noteWordAt, noteId, noteDescription, noteDocumentation, noteErrorMessage, noteHidden, noteCompletions, noteAdditionalCompletions, noteTags, noteCaseDetection}
+use Rattle.layout.specs.Layout.{NONE, schemaNote, objectClosed, noteWord, noteId, noteDescription, noteDocumentation, noteErrorMessage, noteHidden, noteCompletions, noteAdditionalCompletions, noteTags, noteCaseDetection}
 use Rattle.schema.specs.Shape.{Note, Object}
 use Rattle.schema.specs.Look.{noteAt}
 use Rattle.merge.specs.Merge.{later, withTags, Kept, nothing, kept, over, descriptionOf, noteOf, Gathered, start, add, gather}
 use Rattle.joins.specs.declared.Offers.{Offers}
-use Rattle.joins.specs.Joins.{keepOne, joined, tallyOne, tally, joinWords, closedOf}
+use Rattle.joins.specs.Joins.{noteField, keepOne, joined, tallyOne, tally, joinWords, closedOf}
 use Rattle.joins.proofs.Gathered.{objects}
-use Rattle.compilation.specs.Table.{noteWord, lastWord, mergedNoteIn}
+use Rattle.compilation.specs.Table.{lastWord, mergedNoteIn}
 use Rattle.compilation.specs.Compile.{noteWordsOf}
 
 or-either : (a c x : Bool) → (a || c) || x ≡ a || either c x
@@ -34,14 +34,14 @@ module _ (eq : ℕ → ℕ → Bool) (o : ℕ → Object ℕ) where
 
   module _ (N S : List ℕ) where
     -- a field of the note: the last that is present
-    pub gather-field : (f : Kept → ℕ) (k : ℕ) → ((x y : Kept) → f (over x y) ≡ later (f x) (f y)) → ((b : ℕ) → f (kept (o b .note)) ≡ noteWord N S b k) → (g : Gathered ℕ) (bs : List ℕ) → f (gather eq g (objects o bs) .note) ≡ lastWord N S k k (f (g .note)) bs
+    pub gather-field : (f : Kept → ℕ) (k : ℕ) → ((x y : Kept) → f (over x y) ≡ later (f x) (f y)) → ((b : ℕ) → f (kept (o b .note)) ≡ noteField N S b k) → (g : Gathered ℕ) (bs : List ℕ) → f (gather eq g (objects o bs) .note) ≡ lastWord N S k k (f (g .note)) bs
     unfolding gather objects lastWord later
     gather-field f k h e g [] = refl
     gather-field f k h e g (b ∷ bs) =
         gather-field f k h e (add eq g (o b)) bs ∙ ap (λ (d : ℕ). lastWord N S k k d bs) (h (g .note) (kept (o b .note)) ∙ ap (λ (w : ℕ). later (f (g .note)) w) (e b))
 
     -- "case-detection goes with tags"
-    pub gather-detection : ((b d : ℕ) → withTags d (kept (o b .note) .tags) (kept (o b .note) .detection) ≡ pick (eqb (noteWord N S b 7) NONE) d (noteWord N S b 8)) → (g : Gathered ℕ) (bs : List ℕ) → gather eq g (objects o bs) .note .detection ≡ lastWord N S 7 8 (g .note .detection) bs
+    pub gather-detection : ((b d : ℕ) → withTags d (kept (o b .note) .tags) (kept (o b .note) .detection) ≡ pick (eqb (noteField N S b 7) NONE) d (noteField N S b 8)) → (g : Gathered ℕ) (bs : List ℕ) → gather eq g (objects o bs) .note .detection ≡ lastWord N S 7 8 (g .note .detection) bs
     unfolding gather objects lastWord
     gather-detection h g [] = refl
     gather-detection h g (b ∷ bs) =
@@ -64,16 +64,16 @@ readNote N n =
 
 -- its fields as words; NONE where there is no note
 module _ (N S : List ℕ) (b : ℕ) where
-  kept-word : (f : Kept → ℕ) (k : ℕ) → f nothing ≡ NONE → f (kept (some (readNote N (schemaNote S b)))) ≡ noteWordAt N (schemaNote S b) k → f (kept (noteAt N (schemaNote S b))) ≡ noteWord N S b k
-  unfolding noteAt noteWord noteWordAt
+  kept-word : (f : Kept → ℕ) (k : ℕ) → f nothing ≡ NONE → f (kept (some (readNote N (schemaNote S b)))) ≡ noteWord N (schemaNote S b) k → f (kept (noteAt N (schemaNote S b))) ≡ noteField N S b k
+  unfolding noteAt noteField noteWord
   kept-word f k e h = choose (eqb (schemaNote S b) NONE)
     where
       choose : (c : Bool) → f (kept (pick c none (some (readNote N (schemaNote S b))))) ≡ pick c NONE (getD N (schemaNote S b * 9 + k) 0)
       choose true = e
       choose false = h
 
-  pub detection-word : (d : ℕ) → withTags d (kept (noteAt N (schemaNote S b)) .tags) (kept (noteAt N (schemaNote S b)) .detection) ≡ pick (eqb (noteWord N S b 7) NONE) d (noteWord N S b 8)
-  unfolding noteAt noteWord noteWordAt withTags
+  pub detection-word : (d : ℕ) → withTags d (kept (noteAt N (schemaNote S b)) .tags) (kept (noteAt N (schemaNote S b)) .detection) ≡ pick (eqb (noteField N S b 7) NONE) d (noteField N S b 8)
+  unfolding noteAt noteField noteWord withTags
   detection-word d = choose (eqb (schemaNote S b) NONE)
     where
       choose : (c : Bool) → withTags d (kept (pick c none (some (readNote N (schemaNote S b)))) .tags) (kept (pick c none (some (readNote N (schemaNote S b)))) .detection) ≡ pick (eqb (pick c NONE (getD N (schemaNote S b * 9 + 7) 0)) NONE) d (pick c NONE (getD N (schemaNote S b * 9 + 8) 0))
@@ -81,10 +81,10 @@ module _ (N S : List ℕ) (b : ℕ) where
       choose false = refl
 
 -- the note that a merged object gets
-pub gathered-note : (eq : ℕ → ℕ → Bool) (o : ℕ → Object ℕ) (N S : List ℕ) → ((b : ℕ) → o b .note ≡ noteAt N (schemaNote S b)) → (N₀ S₀ : List ℕ) (s : ℕ) (d : Option Note) → descriptionOf d ≡ noteWord N₀ S₀ s 1 → (bs : List ℕ) → noteWordsOf (noteOf (gather eq start (objects o bs) .note) d) ≡ mergedNoteIn N₀ S₀ N S s bs
+pub gathered-note : (eq : ℕ → ℕ → Bool) (o : ℕ → Object ℕ) (N S : List ℕ) → ((b : ℕ) → o b .note ≡ noteAt N (schemaNote S b)) → (N₀ S₀ : List ℕ) (s : ℕ) (d : Option Note) → descriptionOf d ≡ noteField N₀ S₀ s 1 → (bs : List ℕ) → noteWordsOf (noteOf (gather eq start (objects o bs) .note) d) ≡ mergedNoteIn N₀ S₀ N S s bs
 unfolding mergedNoteIn later
 gathered-note eq o N S h N₀ S₀ s d e bs =
-    let field : (f : Kept → ℕ) (k : ℕ) → ((x y : Kept) → f (over x y) ≡ later (f x) (f y)) → f nothing ≡ NONE → ((b : ℕ) → f (kept (some (readNote N (schemaNote S b)))) ≡ noteWordAt N (schemaNote S b) k) → f (gather eq start (objects o bs) .note) ≡ lastWord N S k k NONE bs =
+    let field : (f : Kept → ℕ) (k : ℕ) → ((x y : Kept) → f (over x y) ≡ later (f x) (f y)) → f nothing ≡ NONE → ((b : ℕ) → f (kept (some (readNote N (schemaNote S b)))) ≡ noteWord N (schemaNote S b) k) → f (gather eq start (objects o bs) .note) ≡ lastWord N S k k NONE bs =
     λ f k l z r. gather-field eq o N S f k l (λ b. ap (λ (n : Option Note). f (kept n)) (h b) ∙ kept-word N S b f k z (r b)) start bs ∙ ap (λ (d : ℕ). lastWord N S k k d bs) z in
     let f1 = field (λ x. x .description) 1 (λ x y. refl) refl (λ b. refl) in
     let f2 = field (λ x. x .documentation) 2 (λ x y. refl) refl (λ b. refl) in
@@ -105,14 +105,6 @@ pub last-append : (d : ℕ) (xs ys : List ℕ) → lastOr d (xs ++ ys) ≡ lastO
 last-append d [] ys = refl
 last-append d (x ∷ xs) ys = last-append x xs ys
 
-pub one-n : (t : Offers) (w : ℕ) → tallyOne t w .n ≡ t .n + length (keepOne w)
-unfolding tallyOne keepOne
-one-n t w = choose (eqb w NONE)
-  where
-    choose : (c : Bool) → pick c t (record { n = t .n + 1; last = w }) .n ≡ t .n + length (pick c [] (w ∷ []))
-    choose true = omega arith
-    choose false = refl
-
 pub one-last : (t : Offers) (w : ℕ) → tallyOne t w .last ≡ lastOr (t .last) (keepOne w)
 unfolding tallyOne keepOne
 one-last t w = choose (eqb w NONE)
@@ -121,13 +113,8 @@ one-last t w = choose (eqb w NONE)
     choose true = refl
     choose false = refl
 
--- how many are offered, and the last of them
+-- the last of what is offered
 module _ (f : ℕ → ℕ) (offered : ℕ → List ℕ) (h : (b : ℕ) → offered b ≡ keepOne (f b)) where
-  pub tally-n : (t : Offers) (bs : List ℕ) → tally f t bs .n ≡ t .n + length (joined offered bs)
-  unfolding tally joined
-  tally-n t [] = omega arith
-  tally-n t (b ∷ bs) = omega (arith, tally-n (tallyOne t (f b)) bs, one-n t (f b), length-append (offered b) (joined offered bs), ap length (h b))
-
   pub tally-last : (t : Offers) (bs : List ℕ) → tally f t bs .last ≡ lastOr (t .last) (joined offered bs)
   unfolding tally joined
   tally-last t [] = refl

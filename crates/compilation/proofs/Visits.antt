@@ -20,7 +20,7 @@ use Rattle.tables.specs.Facts.{WellFormed}
 use Rattle.tables.proofs.Facts.{SchemaFacts, schema-facts, entry-facts}
 use Rattle.schema.specs.Shape.{object, ref}
 use Rattle.schema.specs.Look.{Words, slice, noteOfSchema, look, bases}
-use Rattle.merge.specs.Pairs.{listOf}
+use Rattle.merge.specs.Pairs.{recordPairs}
 use Rattle.compilation.specs.State.{Source, State, Out, done, refused}
 use Rattle.compilation.specs.Table.{field, plainAt, derivedAt, isBuilt, isEager, onFound, nodeAt, compileAt}
 use Rattle.compilation.specs.Compile.{Result, Room, eagerly, compileShape, compileAt as compiled}
@@ -132,7 +132,7 @@ module _ {C : Source} {R : Room} (rooms : Rooms C R) (nodes patterns numbers : L
     at-array e = rw (inside, e, look-array t s (kind-is e)) (array-same rooms (targetIn C) whole go to follows s h st g e (facts .items e))
 
     at-object : field C s 0 ≡ 10 → Met
-    unfolding compileShape nodeAt listOf
+    unfolding compileShape nodeAt recordPairs
     at-object e = rw (inside, e, look-object t s (kind-is e)) (choose (eqb (field C s 14) NONE) refl)
       where
         own : Says C s (seen t s)

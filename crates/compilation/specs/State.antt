@@ -3,6 +3,7 @@ use Prim.Native.Nat.{ℕ, _+_, _*_}
 use mathlib.Core.List.{List, [], _∷_, _++_}
 use lib.ListN.{length, take}
 use Rattle.text.specs.Choice.{pick}
+use Rattle.layout.specs.Layout.{noteWords, schemaWords, mostNotes, mostSchemas, mostLinks}
 use Rattle.append.specs.Append.{room}
 use Rattle.error.specs.declared.Used.{Used}
 
@@ -52,8 +53,8 @@ sourceOf P T R b N S L =
       pool = P;
       texts = T;
       registry = R;
-      notes = take (b .notes * 9) N;
-      schemas = take (b .schemas * 16) S;
+      notes = take (b .notes * noteWords) N;
+      schemas = take (b .schemas * schemaWords) S;
       links = take (b .links) L;
       count = b .schemas;
       notes-lent = length N;
@@ -64,31 +65,31 @@ sourceOf P T R b N S L =
 unfoldable pub stateOf : Used → List ℕ → List ℕ → List ℕ → State
 stateOf u N S L =
     record {
-      notes = take (u .notes * 9) N;
-      schemas = take (u .schemas * 16) S;
+      notes = take (u .notes * noteWords) N;
+      schemas = take (u .schemas * schemaWords) S;
       links = take (u .links) L;
       un = u .notes;
       us = u .schemas;
       ul = u .links;
     }
 
--- a record of 16 words; its number is the used count before it
+-- a record of table 4; its number is the used count before it
 unfoldable pub addSchema : Source → State → List ℕ → Out
 addSchema C st w =
-    pick (room 65536 (C .schemas-lent) (st .us * 16) 16)
+    pick (room (mostSchemas * schemaWords) (C .schemas-lent) (st .us * schemaWords) schemaWords)
     (done (record { notes = st .notes; schemas = st .schemas ++ w; links = st .links; un = st .un; us = st .us + 1; ul = st .ul }) (st .us))
     (refused 33)
 
--- a record of 9 words
+-- a note
 unfoldable pub addNote : Source → State → List ℕ → Out
 addNote C st w =
-    pick (room 9216 (C .notes-lent) (st .un * 9) 9)
+    pick (room (mostNotes * noteWords) (C .notes-lent) (st .un * noteWords) noteWords)
     (done (record { notes = st .notes ++ w; schemas = st .schemas; links = st .links; un = st .un + 1; us = st .us; ul = st .ul }) (st .un))
     (refused 33)
 
 -- a list of links; its first place is the used count before it
 unfoldable pub addLinks : Source → State → List ℕ → Out
 addLinks C st w =
-    pick (room 16384 (C .links-lent) (st .ul) (length w))
+    pick (room mostLinks (C .links-lent) (st .ul) (length w))
     (done (record { notes = st .notes; schemas = st .schemas; links = st .links ++ w; un = st .un; us = st .us; ul = st .ul + length w }) (st .ul))
     (refused 33)

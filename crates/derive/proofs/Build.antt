@@ -8,7 +8,7 @@ use lib.ListN.{length, take}
 use borrow.Author.Tests.{eq-eqb, ne-eqb}
 use Rattle.append.specs.Append.{room, Grown}
 use Rattle.append.proofs.Laws.{room-limit}
-pub use Rattle.joins.proofs.Laws.{part-same}
+use Rattle.merge.proofs.Lists.{part-same}
 use Rattle.error.specs.declared.Used.{Used}
 use Rattle.compilation.specs.State.{Source, Out, done, refused, sourceOf, stateOf, addSchema, addLinks, addNote}
 use Rattle.derive.specs.Meets.{outOf, Ran, Built, Finished}

@@ -2,7 +2,7 @@
 use Prim.Native.Nat.{ℕ, _+_, _*_, _/_, _≤_}
 use mathlib.Core.Path.{_≡_, refl, sym, ap, _∙_}
 use mathlib.Core.Bool.{Bool, true, false}
-use mathlib.Core.List.{List, [], _∷_, _++_}
+use mathlib.Core.List.{List, _++_}
 use native.Mathlib.Omega.{arith}
 use lib.ListN.{length, take, length-append}
 use lib.Dec.{eqb}
@@ -20,6 +20,7 @@ use Rattle.error.specs.declared.Used.{Used}
 use Rattle.joins.specs.declared.Offers.{Offers}
 use Rattle.joins.specs.declared.Lists.{Lists}
 use Rattle.joins.specs.Joins.{offerOf, offeredOf, keepOne, joined, tallyOne, tally, noOffers, joinWords, closedOf, pairWords, requiredWords, Linked}
+use Rattle.joins.proofs.Laws.{one-n, tally-n, offered-at}
 use Rattle.compilation.specs.State.{Source, State, done, andThen, sourceOf, stateOf, addSchema, addLinks, addNote}
 use Rattle.compilation.specs.Table.{field, mergedNote, mergedNoteIn, mergedPairs, requiredAt, offersAt, joinLinksAt, joinRowAt, mergeAt}
 use Rattle.inherit.specs.Carried.{Carried}
@@ -32,28 +33,13 @@ use Rattle.derive.proofs.Rows.{rows-built}
 pub grown-is : (limit : ℕ) (W W′ : List ℕ) (used : ℕ) (new : List ℕ) (r y : Bool) → r ≡ y → Grown limit W W′ used new r → Grown limit W W′ used new y
 grown-is limit W W′ used new r y e g = rw e at g
 
--- offers are counted as they are listed
-one-length : (t : Offers) (w : ℕ) → tallyOne t w .n ≡ t .n + length (keepOne w)
-unfolding tallyOne keepOne
-one-length t w = choose (eqb w NONE)
-  where
-    choose : (x : Bool) → pick x t (record { n = t .n + 1; last = w }) .n ≡ t .n + length (pick x [] (w ∷ []))
-    choose true = omega arith
-    choose false = omega arith
-
-tally-length : (N S : List ℕ) (names : Bool) (t : Offers) (bs : List ℕ) → tally (offerOf N S names) t bs .n ≡ t .n + length (joined (offeredOf N S names) bs)
-unfolding tally joined offeredOf
-tally-length N S names t [] = omega arith
-tally-length N S names t (b ∷ bs) =
-    let w = offerOf N S names b in
-    omega (arith, tally-length N S names (tallyOne t w) bs, one-length t w, length-append (keepOne w) (joined (offeredOf N S names) bs))
-
+-- as many links as offers
 join-length : (N S : List ℕ) (names : Bool) (bs : List ℕ) (own : ℕ) (o : Offers) → o ≡ tallyOne (tally (offerOf N S names) noOffers bs) own → 2 ≤ o .n → length (joinWords (o .n) (joined (offeredOf N S names) bs) own) ≡ o .n
 unfolding joinWords
 join-length N S names bs own o e h =
     let t = tally (offerOf N S names) noOffers bs in
     let m : o .n ≡ tallyOne t own .n = ap (λ (x : Offers). x .n) e in
-    rw (le-ltb (o .n) 2 h) (omega (arith, m, one-length t own, tally-length N S names noOffers bs, length-append (joined (offeredOf N S names) bs) (keepOne own)))
+    rw (le-ltb (o .n) 2 h) (omega (arith, m, one-n t own, tally-n (offerOf N S names) (offeredOf N S names) (λ b. sym (offered-at N S names b _ refl)) noOffers bs, length-append (joined (offeredOf N S names) bs) (keepOne own)))
 
 half : (ps : List (Pair ℕ)) (n : ℕ) → length (flatPairs ps) ≡ n → length ps ≡ n / 2
 half ps n e = omega (arith, flat-length ps)

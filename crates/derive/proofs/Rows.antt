@@ -16,7 +16,8 @@ use Rattle.compilation.specs.Table.{joinRowAt}
 use Rattle.derive.specs.Meets.{Ready, Ran, Built, Finished, Rows, Rowed, joinRow, rowsOf}
 use Rattle.derive.specs.declared.Made.{Made}
 use Rattle.inherit.specs.declared.Scalars.{Scalars}
-use Rattle.derive.proofs.Build.{out-done, out-refused, part-same, source-same}
+use Rattle.merge.proofs.Lists.{part-same}
+use Rattle.derive.proofs.Build.{out-done, out-refused, source-same}
 
 -- a record appended is the simplest case
 pub finished-rowed : (S S′ : List ℕ) (u : Used) (w : List ℕ) (r : Made) → Finished S S′ u w r → Rowed S S′ u (λ C st. addSchema C st w) r

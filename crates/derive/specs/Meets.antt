@@ -6,6 +6,7 @@ use mathlib.Core.List.{List}
 use lib.ListN.{length, take}
 use lib.Dec.{eqb}
 use Rattle.text.specs.Choice.{pick}
+use Rattle.layout.specs.Layout.{schemaWords, mostNotes, mostSchemas, mostLinks}
 use Rattle.layout.specs.Rows.{objectRow}
 use Rattle.error.specs.declared.Used.{Used}
 use Rattle.joins.specs.declared.Offers.{Offers}
@@ -23,9 +24,9 @@ pub record Ready (b u : Used) (X : List ℕ) (sp : ℕ) : Type 0 where
   pub notes : b .notes ≤ u .notes
   pub schemas : b .schemas ≤ u .schemas
   pub links : b .links ≤ u .links
-  pub most : u .schemas ≤ 4096
+  pub most : u .schemas ≤ mostSchemas
   pub top : sp ≤ u .schemas
-  pub long : 4096 ≤ length X
+  pub long : mostSchemas ≤ length X
 
 -- the source as it was, the stack as it was below sp, the counts no less
 pub record Ran (C C′ : Source) (u u′ : Used) (X X′ : List ℕ) (sp : ℕ) : Type 0 where
@@ -34,7 +35,7 @@ pub record Ran (C C′ : Source) (u u′ : Used) (X X′ : List ℕ) (sp : ℕ) 
   pub notes : u .notes ≤ u′ .notes
   pub schemas : u .schemas ≤ u′ .schemas
   pub links : u .links ≤ u′ .links
-  pub most : u′ .schemas ≤ 4096
+  pub most : u′ .schemas ≤ mostSchemas
 
 -- a record built: it is a new one
 pub record Built (o : Out) (C C′ : Source) (u : Used) (N S L X X′ : List ℕ) (sp : ℕ) (r : Made) : Type 0 where
@@ -46,24 +47,24 @@ pub record Built (o : Out) (C C′ : Source) (u : Used) (N S L X X′ : List ℕ
 -- a record appended, whatever the other two tables hold
 pub record Finished (S S′ : List ℕ) (u : Used) (w : List ℕ) (r : Made) : Type 0 where
   pub answer : (C : Source) (N L : List ℕ) → C .schemas-lent ≡ length S → outOf r N S′ L ≡ addSchema C (stateOf u N S L) w
-  pub kept : take (u .schemas * 16) S′ ≡ take (u .schemas * 16) S
+  pub kept : take (u .schemas * schemaWords) S′ ≡ take (u .schemas * schemaWords) S
   pub long : length S′ ≡ length S
   pub notes : r .used .notes ≡ u .notes
   pub links : r .used .links ≡ u .links
   pub fresh : r .no ≡ 0 → r .fresh ≡ true
   pub least : u .schemas ≤ r .used .schemas
   pub rise : r .no ≡ 0 → u .schemas < r .used .schemas
-  pub most : u .schemas ≤ 4096 → r .used .schemas ≤ 4096
+  pub most : u .schemas ≤ mostSchemas → r .used .schemas ≤ mostSchemas
 
 -- records appended or none: o says which, over the source and the state
 pub record Rows (S S′ : List ℕ) (u : Used) (o : Source → State → Out) (r : Made) : Type 0 where
   pub answer : (C : Source) (N L : List ℕ) → C .schemas-lent ≡ length S → outOf r N S′ L ≡ o C (stateOf u N S L)
-  pub kept : take (u .schemas * 16) S′ ≡ take (u .schemas * 16) S
+  pub kept : take (u .schemas * schemaWords) S′ ≡ take (u .schemas * schemaWords) S
   pub long : length S′ ≡ length S
   pub notes : r .used .notes ≡ u .notes
   pub links : r .used .links ≡ u .links
   pub least : u .schemas ≤ r .used .schemas
-  pub most : u .schemas ≤ 4096 → r .used .schemas ≤ 4096
+  pub most : u .schemas ≤ mostSchemas → r .used .schemas ≤ mostSchemas
 
 -- the same, the last of them new
 pub record Rowed (S S′ : List ℕ) (u : Used) (o : Source → State → Out) (r : Made) : Type 0 where
@@ -84,8 +85,8 @@ rowsOf note at x offers named k C st =
 
 -- a join of two offers or more has a link for each, so that their number is a small one
 pub record Joinable (u : Used) (o : Offers) : Type 0 where
-  pub most : u .schemas ≤ 4096
-  pub few : 2 ≤ o .n → o .n ≤ 16384
+  pub most : u .schemas ≤ mostSchemas
+  pub few : 2 ≤ o .n → o .n ≤ mostLinks
 
 -- how many words the lists of a merged object take in the links
 abbrev pub wordsOf : Lists → ℕ
@@ -96,11 +97,11 @@ abbrev pub usedAfter : Used → Lists → Used
 usedAfter u x = record { notes = u .notes + 1; schemas = u .schemas; links = u .links + wordsOf x }
 
 pub record Fits (u : Used) (x : Lists) : Type 0 where
-  pub notes : u .notes < 1024
-  pub links : u .links + wordsOf x ≤ 16384
+  pub notes : u .notes < mostNotes
+  pub links : u .links + wordsOf x ≤ mostLinks
 
 pub record RowsReady (u : Used) (at : ℕ) (x : Lists) (offers named : Offers) : Type 0 where
-  pub most : u .schemas ≤ 4096
-  pub short : at + wordsOf x ≤ 16384
-  pub few : 2 ≤ offers .n → offers .n ≤ 16384
-  pub fewer : 2 ≤ named .n → named .n ≤ 16384
+  pub most : u .schemas ≤ mostSchemas
+  pub short : at + wordsOf x ≤ mostLinks
+  pub few : 2 ≤ offers .n → offers .n ≤ mostLinks
+  pub fewer : 2 ≤ named .n → named .n ≤ mostLinks

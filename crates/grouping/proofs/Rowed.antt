@@ -7,23 +7,12 @@ use native.Mathlib.Omega.{arith}
 use lib.ListN.{getD}
 use lib.Dec.{eqb, leb}
 use Rattle.text.specs.Choice.{pick}
-use Rattle.layout.specs.Layout.{NONE, noteWord, schemaWord, pairKey, pairValue}
-use Rattle.schema.specs.Shape.{Pair, nameless, named, plain, anyOf, allOf, array, object, ref}
+use Rattle.layout.specs.Layout.{NONE, noteWord, schemaWord}
+use Rattle.schema.specs.Shape.{nameless, named, plain, anyOf, allOf, array, object, ref}
 use Rattle.schema.specs.Look as words
-use Rattle.schema.specs.Look.{Words, slice, pairsFrom, ownWords, noteAt, optional, raw, bases}
-use Rattle.merge.specs.Pairs.{pairsAt}
+use Rattle.schema.specs.Look.{Words, slice, ownWords, noteAt, optional, raw, bases}
+use Rattle.merge.proofs.Lists.{pairs-are}
 use Rattle.grouping.specs.Record.{rowAt, noteIn, noteOfRow, ownOf, arrayOf, objectOf, shapeOf, basesOf}
-
--- the pairs of a list, by their places and one after the other
-pairs-from : (links : List ℕ) (first k n : ℕ) → pairsFrom links first k n ≡ pairsAt links (first + k * 2) n
-unfolding pairsFrom pairsAt pairKey pairValue
-pairs-from links first k zero = refl
-pairs-from links first k (suc n) =
-    ap (λ (x : List (Pair ℕ)). record { key = getD links (first + k * 2) 0; value = getD links (first + k * 2 + 1) 0 } ∷ x)
-    (pairs-from links first (k + 1) n ∙ ap (λ (at : ℕ). pairsAt links at n) (omega arith))
-
-pub pairs-are : (links : List ℕ) (first n : ℕ) → pairsFrom links first 0 n ≡ pairsAt links first n
-pairs-are links first n = pairs-from links first 0 n ∙ ap (λ (at : ℕ). pairsAt links at n) (omega arith)
 
 -- the words of a record are a part of the table
 pub row-slice : (schemas : List ℕ) (s k n : ℕ) → ownWords schemas s k n ≡ slice schemas (s * 16 + k) n

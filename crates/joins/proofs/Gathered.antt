@@ -1,32 +1,16 @@
 -- What the lists laid in the links have to do with `gather`: part by part, over records b whose objects are `o b`. Assumes nothing.
-use Prim.Native.Nat.{ℕ, zero, suc, _+_, _*_}
+use Prim.Native.Nat.{ℕ}
 use mathlib.Core.Path.{_≡_, refl, sym, ap, _∙_}
-use mathlib.Core.Bool.{Bool, true, false, _||_}
+use mathlib.Core.Bool.{Bool, true, false}
 use mathlib.Core.List.{List, [], _∷_, _++_, append-assoc, append-nil}
 use mathlib.Core.Option.{Option, some, none}
-use native.Mathlib.Omega.{arith}
-use lib.ListN.{length, getD, take}
 use lib.Dec.{eqb}
-use Rattle.text.specs.Choice.{pick, both, either}
-use Rattle.layout.specs.Layout.{NONE, pairKey, pairValue, objectClosed}
-use Rattle.schema.specs.Shape.{Pair, Names, Object}
-use Rattle.schema.specs.Look.{slice, pairsFrom}
+use Rattle.text.specs.Choice.{pick}
+use Rattle.layout.specs.Layout.{NONE}
+use Rattle.schema.specs.Shape.{Pair, Object}
 use Rattle.merge.specs.Merge.{putAll, _⊕_, counting, Gathered, add, gather}
-use Rattle.merge.specs.Pairs.{pair, pairsAt, mergeAll, span}
-use Rattle.joins.specs.Joins.{keepOne, joined, closedOf}
-
--- the same pairs, the same words
-pub pairs-from : (L : List ℕ) (first k n : ℕ) → pairsFrom L first k n ≡ pairsAt L (first + k * 2) n
-unfolding pairsFrom pairsAt pairKey pairValue
-pairs-from L first k zero = refl
-pairs-from L first k (suc n) =
-    let e : first + (k + 1) * 2 ≡ first + k * 2 + 2 = omega arith in
-    ap (λ (l : List (Pair ℕ)). pair (getD L (first + k * 2) 0) (getD L (first + k * 2 + 1) 0) ∷ l) (pairs-from L first (k + 1) n ∙ ap (λ (i : ℕ). pairsAt L i n) e)
-
-pub span-slice : (L : List ℕ) (at n : ℕ) → span L at 1 n ≡ slice L at n
-unfolding span slice
-span-slice L at zero = refl
-span-slice L at (suc n) = ap (λ (l : List ℕ). getD L at 0 ∷ l) (span-slice L (at + 1) n)
+use Rattle.merge.specs.Pairs.{mergeAll}
+use Rattle.joins.specs.Joins.{keepOne, joined}
 
 -- a list, or none where it is empty
 abbrev pub listed : {A : Type 0} → List A → Option (List A)

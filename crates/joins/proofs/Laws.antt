@@ -6,7 +6,7 @@ use mathlib.Core.List.{List, [], _∷_, _++_, append-assoc, append-nil}
 use native.Mathlib.Omega.{arith}
 use native.Mathlib.Numerals.{add-one}
 use lib.ListN.{length, getD, take, set, length-set, length-append}
-use lib.Seq.{take-take, take-set-le, take-suc-set, length-take-le, take-length}
+use lib.Seq.{take-set-le, take-suc-set, length-take-le, take-length}
 use lib.Dec.{eqb, ltb}
 use borrow.Author.Tests.{eq-eqb, ne-eqb, lt-ltb, le-ltb}
 use Rattle.text.specs.Choice.{pick, both, either, clash}
@@ -18,7 +18,8 @@ use Rattle.schema.proofs.Slices.{slice-begin, slice-more, slice-end}
 use Rattle.merge.specs.declared.Put.{Put}
 use Rattle.merge.specs.Meets.{Placed, Room, Joins}
 use Rattle.merge.specs.Merge.{putAll}
-use Rattle.merge.specs.Pairs.{span, flatPairs, pairsAt, mergeAll, listOf}
+use Rattle.merge.specs.Pairs.{span, flatPairs, pairsAt, mergeAll, recordPairs}
+use Rattle.merge.proofs.Lists.{part-same}
 use Rattle.merge.proofs.Laws.{placed-words, flat-length}
 use Rattle.schema.specs.Shape.{Pair}
 use Rattle.joins.specs.declared.Offers.{Offers}
@@ -62,10 +63,6 @@ tally-none t w h = rw (eq-eqb w NONE h)
 pub tally-more : (t : Offers) (w : ℕ) → (w ≡ NONE → ⊥) → record { n = t .n + 1; last = w } ≡ tallyOne t w
 unfolding tallyOne
 tally-more t w h = rw (ne-eqb w NONE h)
-
--- a shorter part of equal parts
-pub part-same : (a b : ℕ) (X Y : List ℕ) → a ≤ b → take b X ≡ take b Y → take a X ≡ take a Y
-part-same a b X Y h e = sym (take-take a b X h) ∙ ap (take a) e ∙ take-take a b Y h
 
 -- no room: nothing is laid
 pub laid-no : (L : List ℕ) (at : ℕ) (new : List ℕ) (n : ℕ) → room mostLinks (length L) at (length new) ≡ false → Laid L L at new (record { full = true; n = n })
@@ -353,6 +350,20 @@ pub tally-small : (t r : Offers) (w : ℕ) → r ≡ tallyOne t w → r .n ≤ t
 unfolding tallyOne
 tally-small t r w h = rw h (tally-pick (eqb w NONE) t w)
 
+-- offers are counted as they are listed
+pub one-n : (t : Offers) (w : ℕ) → tallyOne t w .n ≡ t .n + length (keepOne w)
+unfolding tallyOne keepOne
+one-n t w = choose (eqb w NONE)
+  where
+    choose : (c : Bool) → pick c t (record { n = t .n + 1; last = w }) .n ≡ t .n + length (pick c [] (w ∷ []))
+    choose true = omega arith
+    choose false = refl
+
+pub tally-n : (f : ℕ → ℕ) (offered : ℕ → List ℕ) → ((b : ℕ) → offered b ≡ keepOne (f b)) → (t : Offers) (bs : List ℕ) → tally f t bs .n ≡ t .n + length (joined offered bs)
+unfolding tally joined
+tally-n f offered h t [] = omega arith
+tally-n f offered h t (b ∷ bs) = omega (arith, tally-n f offered h (tallyOne t (f b)) bs, one-n t (f b), length-append (offered b) (joined offered bs), ap length (h b))
+
 pub offered-at : (N S : List ℕ) (names : Bool) (b w : ℕ) → w ≡ offerOf N S names b → keepOne w ≡ offeredOf N S names b
 unfolding offeredOf
 offered-at N S names b w e = ap keepOne e
@@ -420,8 +431,8 @@ unfolding closedOf
 closed-end S own A e = rw e
 
 -- with the derived record's own list
-pub merged-laid : (same : ℕ → ℕ → Bool) (S S₀ : List ℕ) (bound own : ℕ) (L L′ bs : List ℕ) (k s first n at : ℕ) (r : Put) → first ≡ schemaWord S₀ s k → n ≡ schemaWord S₀ s (k + 1) → Laid L L′ at (flatPairs (putAll same (mergeAll same (listOf S (take bound L) k) [] bs) (pairsAt (take own L) first n))) r → Laid L L′ at (pairWords same S S₀ bound own L bs k s) r
-unfolding pairWords listOf
+pub merged-laid : (same : ℕ → ℕ → Bool) (S S₀ : List ℕ) (bound own : ℕ) (L L′ bs : List ℕ) (k s first n at : ℕ) (r : Put) → first ≡ schemaWord S₀ s k → n ≡ schemaWord S₀ s (k + 1) → Laid L L′ at (flatPairs (putAll same (mergeAll same (recordPairs S (take bound L) k) [] bs) (pairsAt (take own L) first n))) r → Laid L L′ at (pairWords same S S₀ bound own L bs k s) r
+unfolding pairWords recordPairs
 merged-laid same S S₀ bound own L L′ bs k s first n at r e q a = rw (← e, ← q) a
 
 module _ (S S₀ : List ℕ) (bound own : ℕ) (L M bs : List ℕ) (s at : ℕ) (p : Put) (a : Laid L M at (joined (requiredOf S (take bound L)) bs) p) where
@@ -454,11 +465,6 @@ module _ (S S₀ : List ℕ) (bound own at : ℕ) (low : bound ≤ at) (lower : 
   unfolding requiredWords
   required-words-kept = rw (part-same bound at M L low same-below, part-same own at M L lower same-below)
 
--- one list after what was laid before
-pub laid-is : (L M : List ℕ) (at : ℕ) (x : List ℕ) (p : Put) → Laid L M at x p → p .full ≡ false → Laid L M at x (record { full = false; n = p .n })
-laid-is L M at x p a f =
-    record { fits = λ _. a .fits f; count = λ _. a .count f; grown = λ _. a .grown f; full = λ z. clash z refl; kept = a .kept; long = a .long }
-
 pub laid-not : (L M : List ℕ) (at : ℕ) (x : List ℕ) (p : Put) → Laid L M at x p → p .full ≡ true → Laid L M at x (record { full = true; n = 0 })
 laid-not L M at x p a f =
     record { fits = λ z. clash refl z; count = λ z. clash refl z; grown = λ z. clash refl z; full = λ _. a .full f; kept = a .kept; long = a .long }
@@ -466,15 +472,9 @@ laid-not L M at x p a f =
 pub further : (L M : List ℕ) (at : ℕ) (x : List ℕ) → Laid L M at x (record { full = true; n = 0 }) → (y : List ℕ) → Laid L M at (x ++ y) (record { full = true; n = 0 })
 further L M at x a y = then-full L M at x (record { full = true; n = 0 }) a refl y 0
 
-module _ (L M : List ℕ) (at n : ℕ) (x : List ℕ) (a : Laid L M at x (record { full = false; n = n })) (M′ y y′ : List ℕ) (to : ℕ) (q : Put) (e : to ≡ at + n) (k : y′ ≡ y) (b : Laid M M′ to y′ q) where
-  abbrev placed : Laid M M′ (at + n) y q
-  placed = rw (e, k) at b
-
-  pub chain : q .full ≡ false → Laid L M′ at (x ++ y) (record { full = false; n = n + q .n })
-  chain z = then-laid L M at x (record { full = false; n = n }) a refl M′ y q placed z
-
-  pub chain-not : q .full ≡ true → Laid L M′ at (x ++ y) (record { full = true; n = 0 })
-  chain-not z = then-not L M at x (record { full = false; n = n }) a refl M′ y q placed z
+-- a list laid, its place and its words written in another way
+laid-as : {M M′ y y′ : List ℕ} {to on : ℕ} {q : Put} → to ≡ on → y′ ≡ y → Laid M M′ to y′ q → Laid M M′ on y q
+laid-as e k b = rw (e, k) at b
 
 pub linked-not : (L M : List ℕ) (at : ℕ) (p q r a n : List ℕ) (x : Lists) → Laid L M at ((((p ++ q) ++ r) ++ a) ++ n) (record { full = true; n = 0 }) → x ≡ noLists → Linked L M at p q r a n x
 linked-not L M at p q r a n x l e =
@@ -487,11 +487,11 @@ module _ (L : List ℕ) (at : ℕ) (P Q R A N : List ℕ) (x : Lists) (L₁ : Li
 
   module _ (f₁ : p .full ≡ false) (Q′ L₂ : List ℕ) (q : Put) (k₂ : Q′ ≡ Q) (d₂ : Laid L₁ L₂ (at + p .n) Q′ q) where
     two : q .full ≡ false → Laid L L₂ at (P ++ Q) (record { full = false; n = p .n + q .n })
-    two f = chain L L₁ at (p .n) P (laid-is L L₁ at P p d₁ f₁) L₂ Q Q′ (at + p .n) q refl k₂ d₂ f
+    two f = then-laid L L₁ at P p d₁ f₁ L₂ Q q (laid-as refl k₂ d₂) f
 
     pub linked-2 : q .full ≡ true → x ≡ noLists → Linked L L₂ at P Q R A N x
     linked-2 f e =
-        let d = chain-not L L₁ at (p .n) P (laid-is L L₁ at P p d₁ f₁) L₂ Q Q′ (at + p .n) q refl k₂ d₂ f in
+        let d = then-not L L₁ at P p d₁ f₁ L₂ Q q (laid-as refl k₂ d₂) f in
         linked-not L L₂ at P Q R A N x (further L L₂ at ((P ++ Q) ++ R ++ A) (further L L₂ at ((P ++ Q) ++ R) (further L L₂ at (P ++ Q) d R) A) N) e
 
     pub two-kept : q .full ≡ false → take at L₂ ≡ take at L
@@ -499,30 +499,30 @@ module _ (L : List ℕ) (at : ℕ) (P Q R A N : List ℕ) (x : Lists) (L₁ : Li
 
     module _ (f₂ : q .full ≡ false) (R′ L₃ : List ℕ) (r : Put) (k₃ : R′ ≡ R) (d₃ : Laid L₂ L₃ (at + p .n + q .n) R′ r) where
       three : r .full ≡ false → Laid L L₃ at ((P ++ Q) ++ R) (record { full = false; n = p .n + q .n + r .n })
-      three f = chain L L₂ at (p .n + q .n) (P ++ Q) (two f₂) L₃ R R′ (at + p .n + q .n) r (omega arith) k₃ d₃ f
+      three f = then-laid L L₂ at (P ++ Q) (record { full = false; n = p .n + q .n }) (two f₂) refl L₃ R r (laid-as (omega arith) k₃ d₃) f
 
       pub linked-3 : r .full ≡ true → x ≡ noLists → Linked L L₃ at P Q R A N x
       linked-3 f e =
-          let d = chain-not L L₂ at (p .n + q .n) (P ++ Q) (two f₂) L₃ R R′ (at + p .n + q .n) r (omega arith) k₃ d₃ f in
+          let d = then-not L L₂ at (P ++ Q) (record { full = false; n = p .n + q .n }) (two f₂) refl L₃ R r (laid-as (omega arith) k₃ d₃) f in
           linked-not L L₃ at P Q R A N x (further L L₃ at ((P ++ Q) ++ R ++ A) (further L L₃ at ((P ++ Q) ++ R) d A) N) e
 
       module _ (f₃ : r .full ≡ false) (L₄ : List ℕ) (a : Put) (d₄ : Laid L₃ L₄ (at + p .n + q .n + r .n) A a) where
         four : a .full ≡ false → Laid L L₄ at ((P ++ Q) ++ R ++ A) (record { full = false; n = p .n + q .n + r .n + a .n })
-        four f = chain L L₃ at (p .n + q .n + r .n) ((P ++ Q) ++ R) (three f₃) L₄ A A (at + p .n + q .n + r .n) a (omega arith) refl d₄ f
+        four f = then-laid L L₃ at ((P ++ Q) ++ R) (record { full = false; n = p .n + q .n + r .n }) (three f₃) refl L₄ A a (laid-as (omega arith) refl d₄) f
 
         pub linked-4 : a .full ≡ true → x ≡ noLists → Linked L L₄ at P Q R A N x
         linked-4 f e =
-            let d = chain-not L L₃ at (p .n + q .n + r .n) ((P ++ Q) ++ R) (three f₃) L₄ A A (at + p .n + q .n + r .n) a (omega arith) refl d₄ f in
+            let d = then-not L L₃ at ((P ++ Q) ++ R) (record { full = false; n = p .n + q .n + r .n }) (three f₃) refl L₄ A a (laid-as (omega arith) refl d₄) f in
             linked-not L L₄ at P Q R A N x (further L L₄ at ((P ++ Q) ++ R ++ A) d N) e
 
         module _ (f₄ : a .full ≡ false) (L₅ : List ℕ) (n : Put) (d₅ : Laid L₄ L₅ (at + p .n + q .n + r .n + a .n) N n) where
           pub linked-5 : n .full ≡ true → x ≡ noLists → Linked L L₅ at P Q R A N x
-          linked-5 f e = linked-not L L₅ at P Q R A N x (chain-not L L₄ at (p .n + q .n + r .n + a .n) ((P ++ Q) ++ R ++ A) (four f₄) L₅ N N (at + p .n + q .n + r .n + a .n) n (omega arith) refl d₅ f) e
+          linked-5 f e = linked-not L L₅ at P Q R A N x (then-not L L₄ at ((P ++ Q) ++ R ++ A) (record { full = false; n = p .n + q .n + r .n + a .n }) (four f₄) refl L₅ N n (laid-as (omega arith) refl d₅) f) e
 
           pub linked-all : n .full ≡ false → Linked L L₅ at P Q R A N (record { full = false; properties = p .n; patterns = q .n; required = r .n; additional = a .n; names = n .n })
           linked-all f =
               record {
-                laid = chain L L₄ at (p .n + q .n + r .n + a .n) ((P ++ Q) ++ R ++ A) (four f₄) L₅ N N (at + p .n + q .n + r .n + a .n) n (omega arith) refl d₅ f;
+                laid = then-laid L L₄ at ((P ++ Q) ++ R ++ A) (record { full = false; n = p .n + q .n + r .n + a .n }) (four f₄) refl L₅ N n (laid-as (omega arith) refl d₅) f;
                 properties = λ _. d₁ .count f₁;
                 patterns = λ _. ap length (sym k₂) ∙ d₂ .count f₂;
                 required = λ _. ap length (sym k₃) ∙ d₃ .count f₃;

@@ -10,7 +10,7 @@ use Rattle.layout.specs.Layout.{NONE, mostLinks, noteWord, schemaKind, schemaNo
 use Rattle.append.specs.Append.{room}
 use Rattle.schema.specs.Look.{slice}
 use Rattle.merge.specs.Merge.{putAll}
-use Rattle.merge.specs.Pairs.{flatPairs, mergeAll, listOf}
+use Rattle.merge.specs.Pairs.{flatPairs, mergeAll, recordPairs}
 use Rattle.merge.specs.declared.Put.{Put}
 use Rattle.joins.specs.declared.Offers.{Offers}
 use Rattle.joins.specs.declared.Lists.{Lists}
@@ -69,7 +69,7 @@ closedOf S own (b ∷ bs) = let rest = closedOf S own bs in either (eqb (objectC
 -- bases are compiled, S₀ and own those used at entry
 unfoldable pub pairWords : (ℕ → ℕ → Bool) → List ℕ → List ℕ → ℕ → ℕ → List ℕ → List ℕ → ℕ → ℕ → List ℕ
 pairWords same S S₀ bound own L bs k s =
-    flatPairs (putAll same (mergeAll same (listOf S (take bound L) k) [] bs) (listOf S₀ (take own L) k s))
+    flatPairs (putAll same (mergeAll same (recordPairs S (take bound L) k) [] bs) (recordPairs S₀ (take own L) k s))
 
 -- required: of the bases, then of the derived record
 unfoldable pub requiredWords : List ℕ → List ℕ → ℕ → ℕ → List ℕ → List ℕ → ℕ → List ℕ

@@ -8,7 +8,7 @@ ghost use mathlib.Core.Bool.{true, false};
 ghost use Rattle.schema.specs.Look.{slice};
 ghost use Rattle.text.specs.Text.{sameText};
 ghost use Rattle.merge.specs.Merge.{putAll};
-ghost use Rattle.merge.specs.Pairs.{span, pairsAt, flatPairs, mergeAll, listOf};
+ghost use Rattle.merge.specs.Pairs.{span, pairsAt, flatPairs, mergeAll, recordPairs};
 ghost use Rattle.joins.specs.Joins.{noteField, detectsCase, offerOf, keepOne, joined, tallyOne, tally, requiredOf, offeredOf, noOffers, joinWords, closedOf, pairWords, requiredWords, noLists, Below, Laid, Linked};
 use layout::schema::ADDITIONAL;
 use layout::schema::CLOSED;
@@ -280,7 +280,7 @@ pub fn lay_pairs(
     at: usize,
 ) -> Put
     requires { ⌜ Below bound own at k ⌝ }
-    ensures { λ r. ⌜ Laid (now (links .entry)) (now (links .exit)) at (flatPairs (putAll (sameText (now (pool .entry)) (now (texts .entry))) (mergeAll (sameText (now (pool .entry)) (now (texts .entry))) (listOf (take (us * schemaWords) (now (schemas .entry))) (take bound (now (links .entry))) k) [] (span (now (stack .entry)) sp 1 count)) (pairsAt (take own (now (links .entry))) first n))) r ⌝ }
+    ensures { λ r. ⌜ Laid (now (links .entry)) (now (links .exit)) at (flatPairs (putAll (sameText (now (pool .entry)) (now (texts .entry))) (mergeAll (sameText (now (pool .entry)) (now (texts .entry))) (recordPairs (take (us * schemaWords) (now (schemas .entry))) (take bound (now (links .entry))) k) [] (span (now (stack .entry)) sp 1 count)) (pairsAt (take own (now (links .entry))) first n))) r ⌝ }
 {
     if MOST_LINKS < at {
         return Put { full: true, n: 0 };

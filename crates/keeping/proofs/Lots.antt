@@ -21,7 +21,7 @@ use Rattle.grouping.specs.Tree.{Every, nil, one, EveryPair, nilPair, onePair}
 use Rattle.grouping.proofs.Merging.{Keys, Lacks, ended, other, Distinct, done, new, putAll-distinct}
 use Rattle.grouping.proofs.Natural.{putAll-in}
 use Rattle.grouping.proofs.Growing.{pairs-new}
-use Rattle.grouping.proofs.Rowed.{pairs-are}
+use Rattle.merge.proofs.Lists.{pairs-are}
 use Rattle.grouping.proofs.Shapes.{pairs-less}
 use Rattle.grouping.proofs.WellFormed.{pairs-every}
 use Rattle.grouping.proofs.Grouping.{text-keys}

@@ -6,14 +6,15 @@ use mathlib.Core.List.{List, [], _∷_, _++_, append-assoc, append-nil}
 use native.Mathlib.Omega.{arith}
 use native.Mathlib.Numerals.{add-one}
 use lib.ListN.{length, getD, take, drop, set, length-set, length-append}
-use lib.Seq.{take-length, take-set-le, take-take, getD-set-same, getD-set-other, take-suc}
+use lib.Seq.{take-length, take-set-le, getD-set-same, getD-set-other, take-suc}
 use Rattle.text.specs.Choice.{pick}
-use Rattle.layout.specs.Layout.{schemaWord}
+use Rattle.layout.specs.Layout.{mostLinks, schemaWord}
 use Rattle.schema.specs.Shape.{Pair}
 use Rattle.merge.specs.Merge.{put, putAll}
-use Rattle.merge.specs.Pairs.{pair, pairsAt, flatPairs, mergeAll, listOf, span}
+use Rattle.merge.specs.Pairs.{pair, pairsAt, flatPairs, mergeAll, recordPairs, span}
 use Rattle.merge.specs.Meets.{Room, Reads, Placed, Gathers, Joins}
 use Rattle.merge.specs.declared.Put.{Put}
+use Rattle.merge.proofs.Lists.{part-same}
 
 pub pairs-length : (L : List ℕ) (at n : ℕ) → length (pairsAt L at n) ≡ n
 unfolding pairsAt
@@ -135,7 +136,7 @@ module _ (same : ℕ → ℕ → Bool) where
           long = refl;
         }
 
-    seek-new-at : n ≤ j → ul + n * 2 + 2 ≤ 16384 → ul + n * 2 + 2 ≤ length L → Placed L (both-set L (ul + n * 2) k v) ul (put same (pair k v) (pairsAt L ul n)) (record { full = false; n = n + 1 })
+    seek-new-at : n ≤ j → ul + n * 2 + 2 ≤ mostLinks → ul + n * 2 + 2 ≤ length L → Placed L (both-set L (ul + n * 2) k v) ul (put same (pair k v) (pairsAt L ul n)) (record { full = false; n = n + 1 })
     unfolding pairsAt
     seek-new-at h a b =
         let m : n + 1 - (n + 1) ≡ 0 = omega arith in
@@ -150,14 +151,11 @@ module _ (same : ℕ → ℕ → Bool) where
     pub seek-full : (M : List ℕ) → M ≡ L → n ≤ j → (Room L ul (n + 1) → ⊥) → Placed L M ul (put same (pair k v) (pairsAt L ul n)) (record { full = true; n = n })
     seek-full M u h f = rw u (seek-full-at h f)
 
-    pub seek-new : (M : List ℕ) → M ≡ L → n ≤ j → ul + n * 2 + 2 ≤ 16384 → ul + n * 2 + 2 ≤ length M → Placed L (both-set M (ul + n * 2) k v) ul (put same (pair k v) (pairsAt L ul n)) (record { full = false; n = n + 1 })
+    pub seek-new : (M : List ℕ) → M ≡ L → n ≤ j → ul + n * 2 + 2 ≤ mostLinks → ul + n * 2 + 2 ≤ length M → Placed L (both-set M (ul + n * 2) k v) ul (put same (pair k v) (pairsAt L ul n)) (record { full = false; n = n + 1 })
     seek-new M u h a b = rw u (seek-new-at h a (rw u at b))
 
     pub seek-long : (M : List ℕ) → M ≡ L → ul + n * 2 ≤ length M
     seek-long M u = rw u (g .room .lent)
-
-  part-same : (a b : ℕ) (X Y : List ℕ) → a ≤ b → take b X ≡ take b Y → take a X ≡ take a Y
-  part-same a b X Y h e = sym (take-take a b X h) ∙ ap (take a) e ∙ take-take a b Y h
 
   room-same : (L M : List ℕ) (ul n : ℕ) → length M ≡ length L → Room L ul n → Room M ul n
   room-same L M ul n e r = record { limit = r .limit; lent = omega (arith, r .lent) }
@@ -239,7 +237,7 @@ module _ (same : ℕ → ℕ → Bool) where
     pub room : Room L₀ ul m
     pub kept : take ul L ≡ take ul L₀
     pub long : length L ≡ length L₀
-    pub rest : mergeAll same (listOf S (take bound L₀) k) [] (span X sp 1 count) ≡ mergeAll same (listOf S (take bound L₀) k) (pairsAt L ul m) (span X (sp + j) 1 (count - j))
+    pub rest : mergeAll same (recordPairs S (take bound L₀) k) [] (span X sp 1 count) ≡ mergeAll same (recordPairs S (take bound L₀) k) (pairsAt L ul m) (span X (sp + j) 1 (count - j))
 
   pub gathering-none : (S X L : List ℕ) (bound k sp count ul : ℕ) → Gathers L ul bound k → Gathering S X L L bound k sp count ul 0 0
   unfolding pairsAt
@@ -252,7 +250,7 @@ module _ (same : ℕ → ℕ → Bool) where
     pub gathering-reads : Reads L ul m bound
     gathering-reads = record { room = room-same L₀ L ul m (g .long) (g .room); low = g .low }
 
-    pub gathering-end : count ≤ j → Placed L₀ L ul (mergeAll same (listOf S (take bound L₀) k) [] (span X sp 1 count)) (record { full = false; n = m })
+    pub gathering-end : count ≤ j → Placed L₀ L ul (mergeAll same (recordPairs S (take bound L₀) k) [] (span X sp 1 count)) (record { full = false; n = m })
     unfolding span mergeAll
     gathering-end h =
         let a : count - j ≡ 0 = omega arith in
@@ -268,8 +266,8 @@ module _ (same : ℕ → ℕ → Bool) where
       abbrev wider : List (Pair ℕ)
       wider = putAll same (pairsAt L ul m) (pairsAt (take bound L) first n)
 
-      turned-all : mergeAll same (listOf S (take bound L₀) k) [] (span X sp 1 count) ≡ mergeAll same (listOf S (take bound L₀) k) wider (span X (sp + (j + 1)) 1 (count - (j + 1)))
-      unfolding span mergeAll listOf
+      turned-all : mergeAll same (recordPairs S (take bound L₀) k) [] (span X sp 1 count) ≡ mergeAll same (recordPairs S (take bound L₀) k) wider (span X (sp + (j + 1)) 1 (count - (j + 1)))
+      unfolding span mergeAll recordPairs
       turned-all =
           let a : count - j ≡ suc (count - (j + 1)) = omega arith in
           let d : sp + (j + 1) ≡ sp + j + 1 = omega arith in
@@ -286,12 +284,12 @@ module _ (same : ℕ → ℕ → Bool) where
             room = room-same L L₀ ul (r .n) (sym (g .long)) (p .room f);
             kept = p .kept ∙ g .kept;
             long = p .long ∙ g .long;
-            rest = turned-all ∙ ap (λ (l : List (Pair ℕ)). mergeAll same (listOf S (take bound L₀) k) l (span X (sp + (j + 1)) 1 (count - (j + 1)))) (sym (p .stand f));
+            rest = turned-all ∙ ap (λ (l : List (Pair ℕ)). mergeAll same (recordPairs S (take bound L₀) k) l (span X (sp + (j + 1)) 1 (count - (j + 1)))) (sym (p .stand f));
           }
 
-      pub gathering-full : r .full ≡ true → (x : ℕ) → Placed L₀ L′ ul (mergeAll same (listOf S (take bound L₀) k) [] (span X sp 1 count)) (record { full = true; n = x })
+      pub gathering-full : r .full ≡ true → (x : ℕ) → Placed L₀ L′ ul (mergeAll same (recordPairs S (take bound L₀) k) [] (span X sp 1 count)) (record { full = true; n = x })
       gathering-full f x =
-          let w = all-least (listOf S (take bound L₀) k) wider (span X (sp + (j + 1)) 1 (count - (j + 1))) in
+          let w = all-least (recordPairs S (take bound L₀) k) wider (span X (sp + (j + 1)) 1 (count - (j + 1))) in
           record {
             stand = λ z. absurd (let z : _≡_ {A = ℕ} 0 1 = cc in omega arith);
             room = λ z. absurd (let z : _≡_ {A = ℕ} 0 1 = cc in omega arith);

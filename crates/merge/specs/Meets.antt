@@ -4,13 +4,14 @@ use mathlib.Core.Path.{_≡_}
 use mathlib.Core.Bool.{Bool, true, false}
 use mathlib.Core.List.{List, [], _∷_, _++_}
 use lib.ListN.{length, take}
+use Rattle.layout.specs.Layout.{mostLinks}
 use Rattle.schema.specs.Shape.{Pair}
 use Rattle.merge.specs.Pairs.{pairsAt}
 use Rattle.merge.specs.declared.Put.{Put}
 
 -- n pairs stand after ul
 pub record Room (L : List ℕ) (ul n : ℕ) : Type 0 where
-  pub limit : ul + n * 2 ≤ 16384
+  pub limit : ul + n * 2 ≤ mostLinks
   pub lent : ul + n * 2 ≤ length L
 
 pub record Reads (L : List ℕ) (ul n bound : ℕ) : Type 0 where

@@ -31,5 +31,5 @@ span L at step zero = []
 span L at step (suc n) = getD L at 0 ∷ span L (at + step) step n
 
 -- the pairs of a record: words k and k + 1 are their first place and count
-unfoldable pub listOf : List ℕ → List ℕ → ℕ → ℕ → List (Pair ℕ)
-listOf S L k b = pairsAt L (schemaWord S b k) (schemaWord S b (k + 1))
+unfoldable pub recordPairs : List ℕ → List ℕ → ℕ → ℕ → List (Pair ℕ)
+recordPairs S L k b = pairsAt L (schemaWord S b k) (schemaWord S b (k + 1))

@@ -6,7 +6,7 @@ ghost use mathlib.Core.List.{[]};
 ghost use Rattle.text.specs.Text.{sameText};
 ghost use Rattle.layout.specs.Layout.{schemaWord, schemaWords};
 ghost use Rattle.merge.specs.Merge.{put, putAll};
-ghost use Rattle.merge.specs.Pairs.{pair, pairsAt, mergeAll, listOf, span};
+ghost use Rattle.merge.specs.Pairs.{pair, pairsAt, mergeAll, recordPairs, span};
 ghost use Rattle.merge.specs.Meets.{Room, Reads, Placed, Gathers, Joins};
 use layout::words::MOST_LINKS;
 use layout::words::SCHEMA_WORDS;
@@ -125,7 +125,7 @@ pub fn merge_all(
     ul: usize,
 ) -> Put
     requires { ⌜ Gathers (now links) ul bound k ⌝ }
-    ensures { λ r. ⌜ Placed (now (links .entry)) (now (links .exit)) ul (mergeAll (sameText (now (pool .entry)) (now (texts .entry))) (listOf (take (us * schemaWords) (now (schemas .entry))) (take bound (now (links .entry))) k) [] (span (now (stack .entry)) sp 1 count)) r ⌝ }
+    ensures { λ r. ⌜ Placed (now (links .entry)) (now (links .exit)) ul (mergeAll (sameText (now (pool .entry)) (now (texts .entry))) (recordPairs (take (us * schemaWords) (now (schemas .entry))) (take bound (now (links .entry))) k) [] (span (now (stack .entry)) sp 1 count)) r ⌝ }
 {
     let c = count as usize;
     let mut j: usize = 0;
@@ -162,7 +162,7 @@ pub fn merge_pairs(
     ul: usize,
 ) -> Put
     requires { ⌜ Joins (now links) ul bound own k ⌝ }
-    ensures { λ r. ⌜ Placed (now (links .entry)) (now (links .exit)) ul (putAll (sameText (now (pool .entry)) (now (texts .entry))) (mergeAll (sameText (now (pool .entry)) (now (texts .entry))) (listOf (take (us * schemaWords) (now (schemas .entry))) (take bound (now (links .entry))) k) [] (span (now (stack .entry)) sp 1 count)) (pairsAt (take own (now (links .entry))) first n)) r ⌝ }
+    ensures { λ r. ⌜ Placed (now (links .entry)) (now (links .exit)) ul (putAll (sameText (now (pool .entry)) (now (texts .entry))) (mergeAll (sameText (now (pool .entry)) (now (texts .entry))) (recordPairs (take (us * schemaWords) (now (schemas .entry))) (take bound (now (links .entry))) k) [] (span (now (stack .entry)) sp 1 count)) (pairsAt (take own (now (links .entry))) first n)) r ⌝ }
 {
     let p = merge_all(
         pool,

@@ -10,7 +10,8 @@ use Rattle.put.specs.Meets.{Listed}
 use Rattle.put.specs.Chase.{isFresh, num, next, entryWords}
 use Rattle.put.specs.declared.Lead.{Lead}
 use Rattle.append.proofs.Laws.{room-yes}
-use Rattle.put.proofs.Weave.{part-same, next-most}
+use Rattle.merge.proofs.Lists.{part-same}
+use Rattle.put.proofs.Weave.{next-most}
 
 -- after i turns
 pub record Entering (f : ℕ → Lead) (lb : ℕ) (X L₀ L : List ℕ) (ul at count sp i p : ℕ) : Type 0 where

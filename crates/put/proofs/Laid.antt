@@ -7,39 +7,18 @@ use native.Mathlib.Omega.{arith}
 use lib.ListN.{length, getD, take}
 use Rattle.layout.specs.Layout.{schemaWord}
 use Rattle.layout.specs.Rows.{objectRow}
-use Rattle.compilation.specs.State.{Source, Out, done, sourceOf, stateOf, addSchema, addLinks}
+use Rattle.compilation.specs.State.{Source, Out, done, sourceOf, stateOf, addLinks}
 use Rattle.compilation.specs.Table.{field, span, weld}
-use Rattle.derive.specs.Meets.{Ready, Ran, Built, Finished}
+use Rattle.derive.specs.Meets.{Ready, Ran, Finished}
 use Rattle.put.specs.Meets.{Listed, laidAt, valuesAt, Laid}
 use Rattle.put.specs.Chase.{chaseIn, chaseAt, isFresh, num, next, weaveAt, entryWords}
 use Rattle.error.specs.declared.Used.{Used}
 use Rattle.derive.specs.declared.Made.{Made}
 use Rattle.put.specs.declared.Lead.{Lead}
 use Rattle.append.proofs.Laws.{room-limit}
+use Rattle.merge.proofs.Lists.{part-same}
 use Rattle.derive.proofs.Build.{source-same, links-done, links-full, refused-built}
-use Rattle.put.proofs.Weave.{part-same}
-
--- a record appended after what ran
-module _ (P T R : List ℕ) (b u v : Used) (N S S′ L L′ : List ℕ) (w : List ℕ) (r : Made) (f : Finished S S′ v w r) where
-  finish-ran : (C : Source) (X X′ : List ℕ) (sp : ℕ) → Ready b u X sp → Ran C (sourceOf P T R b N S L′) u v X X′ sp → Ran C (sourceOf P T R b N S′ L′) u (r .used) X X′ sp
-  finish-ran C X X′ sp rd ran =
-      record {
-        source = source-same P T R b v N N S S′ L′ L′ (omega (arith, rd .notes, ran .notes)) (omega (arith, rd .schemas, ran .schemas)) (omega (arith, rd .links, ran .links)) refl (f .kept) refl refl (f .long) refl ∙ ran .source;
-        stack = ran .stack;
-        notes = omega (arith, ran .notes, f .notes);
-        schemas = omega (arith, ran .schemas, f .least);
-        links = omega (arith, ran .links, f .links);
-        most = f .most (ran .most);
-      }
-
-  pub finish-built : (o : Out) (C : Source) (X X′ : List ℕ) (sp : ℕ) → Ready b u X sp → Ran C (sourceOf P T R b N S L′) u v X X′ sp → o ≡ addSchema C (stateOf v N S L′) w → Built o C (sourceOf P T R b N S′ L′) u N S′ L′ X X′ sp r
-  finish-built o C X X′ sp rd ran e =
-      record {
-        answer = f .answer C N L′ (ap (λ (D : Source). D .schemas-lent) (sym (ran .source))) ∙ sym e;
-        ran = finish-ran C X X′ sp rd ran;
-        fresh = f .fresh;
-        rise = λ z. omega (arith, f .rise z, ran .schemas);
-      }
+use Rattle.derive.proofs.Rows.{finish-built}
 
 pub listed-small : (L L′ : List ℕ) (ul count : ℕ) (new : List ℕ) (r : Bool) → Listed L L′ ul count new r → r ≡ true → ul + count ≤ 16384
 listed-small L L′ ul count new r h e = room-limit 16384 (length L) ul count (sym (h .yes) ∙ e)
@@ -150,7 +129,7 @@ module _ (P T R : List ℕ) (b u : Used) (below s : ℕ) (S L X : List ℕ) (sp 
       lay-done f S′ note required wanted least most closed naming e1 e7 e8 e9 e10 e11 e13 rec x r fin =
           record {
             built =
-                λ N. finish-built P T R b u used₂ N S S′ L L₂ rec r fin (goal N) (from N) X X sp rd
+                λ N. finish-built P T R b u used₂ N S S′ L₂ rec r fin (goal N) (from N) X X sp rd
                 (lay-ran N L₂ used₂ kept₂ long₂ refl refl (omega arith))
                 (rw (properties-are N, properties-done N, patterns-are N, links-done (from N) used₁ N S L₁ L₂ (patterns * 2) (entries L on patterns mid) second-length (sym (h .long)) (sym (g .yes) ∙ f) (g .grown f ∙ ap (λ (l : List ℕ). take (u .links + count * 2) L₁ ++ l) second-is), x, e1, e3, e5, e7, e8, e9, e10, e11, e13));
           }

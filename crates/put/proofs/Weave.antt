@@ -11,7 +11,7 @@ use lib.Seq.{getD-take, take-suc-set, take-set-le, take-length}
 use Rattle.append.specs.Append.{room}
 use Rattle.put.specs.Meets.{Listed}
 use Rattle.append.proofs.Laws.{room-yes}
-pub use Rattle.joins.proofs.Laws.{part-same}
+use Rattle.merge.proofs.Lists.{part-same}
 use Rattle.put.specs.Chase.{isFresh, num, next, weaveAt, topAt}
 use Rattle.compilation.specs.Table.{span}
 use Rattle.put.specs.declared.Lead.{Lead}
@@ -23,11 +23,6 @@ span-snoc Q at step zero = ap (λ (k : ℕ). getD Q k 0 ∷ []) (omega arith)
 span-snoc Q at step (suc n) =
     let e : at + step + n * step ≡ at + (n + 1) * step = omega (arith, add-mul n 1 step) in
     ap (λ (l : List ℕ). getD Q at 0 ∷ l) (span-snoc Q (at + step) step n ∙ ap (λ (k : ℕ). span Q (at + step) step n ++ (getD Q k 0 ∷ [])) (e ∙ ap (λ (m : ℕ). at + m * step) (add-one n)))
-
-pub span-length : (Q : List ℕ) (at step n : ℕ) → length (span Q at step n) ≡ n
-unfolding span
-span-length Q at step zero = refl
-span-length Q at step (suc n) = ap suc (span-length Q (at + step) step n)
 
 pub next-least : (b : Bool) (p : ℕ) → p ≤ next b p
 unfolding next

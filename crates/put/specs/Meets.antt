@@ -5,6 +5,7 @@ use mathlib.Core.Bool.{Bool, true}
 use mathlib.Core.List.{List, _++_}
 use lib.ListN.{length, take}
 use Rattle.append.specs.Append.{room}
+use Rattle.layout.specs.Layout.{mostSchemas, mostLinks, schemaNote, propertiesFirst, propertiesCount, patternPropertiesFirst, patternPropertiesCount, requiredFirst, requiredCount, objectMinimum, objectMaximum, objectClosed, namingConvention}
 use Rattle.layout.specs.Rows.{objectRow}
 use Rattle.compilation.specs.State.{Source, State, Out, andThen, sourceOf, stateOf, addSchema, addLinks}
 use Rattle.compilation.specs.Table.{field, span, weld}
@@ -15,7 +16,7 @@ use Rattle.derive.specs.declared.Made.{Made}
 
 -- count words appended
 pub record Listed (L L′ : List ℕ) (ul count : ℕ) (new : List ℕ) (r : Bool) : Type 0 where
-  pub yes : r ≡ room 16384 (length L) ul count
+  pub yes : r ≡ room mostLinks (length L) ul count
   pub grown : r ≡ true → take (ul + count) L′ ≡ take ul L ++ new
   pub kept : take ul L′ ≡ take ul L
   pub long : length L′ ≡ length L
@@ -23,9 +24,9 @@ pub record Listed (L L′ : List ℕ) (ul count : ℕ) (new : List ℕ) (r : Boo
 -- how a plain object ends: the links of both lists, then the record
 unfoldable pub laidAt : Source → State → ℕ → List ℕ → List ℕ → ℕ → ℕ → Out
 laidAt C st s ps qs additional names =
-    andThen (addLinks C st (weld (span (C .links) (field C s 2) 2 (field C s 3)) ps)) (λ st₁ at.
-    andThen (addLinks C st₁ (weld (span (C .links) (field C s 4) 2 (field C s 5)) qs)) (λ st₂ on.
-    addSchema C st₂ (objectRow (field C s 1) at (field C s 3) on (field C s 5) additional (field C s 7) (field C s 8) (field C s 9) (field C s 10) (field C s 11) names (field C s 13))))
+    andThen (addLinks C st (weld (span (C .links) (propertiesFirst (C .schemas) s) 2 (propertiesCount (C .schemas) s)) ps)) (λ st₁ at.
+    andThen (addLinks C st₁ (weld (span (C .links) (patternPropertiesFirst (C .schemas) s) 2 (patternPropertiesCount (C .schemas) s)) qs)) (λ st₂ on.
+    addSchema C st₂ (objectRow (schemaNote (C .schemas) s) at (propertiesCount (C .schemas) s) on (patternPropertiesCount (C .schemas) s) additional (requiredFirst (C .schemas) s) (requiredCount (C .schemas) s) (objectMinimum (C .schemas) s) (objectMaximum (C .schemas) s) (objectClosed (C .schemas) s) names (namingConvention (C .schemas) s))))
 
 -- the numbers of the values of a list of pairs
 abbrev pub valuesAt : Source → ℕ → ℕ → ℕ → ℕ → List ℕ → ℕ → List ℕ
@@ -37,4 +38,4 @@ pub record Laid (P T R : List ℕ) (b u : Used) (below s : ℕ) (S S′ L L′ X
 
 pub record LayReady (b u : Used) (X : List ℕ) (sp mid : ℕ) : Type 0 where
   pub ready : Ready b u X sp
-  pub middle : mid ≤ 4096
+  pub middle : mid ≤ mostSchemas
