@@ -5,7 +5,7 @@ use Prim.Native.Nat.{ℕ, zero, suc, _+_, _/_, _%_, _^_, _≤_, _<_}
 use native.Mathlib.Omega.{arith}
 use lib.Dec.{T, ltb, leb, eqb}
 use lib.Bits.{bitAnd, and-mask}
-use lib.Ieee.{Float, nan, inf, fin, binary64, top, odd, ofFields, ofBits, nanBits, isNan}
+use lib.Ieee.{Float, nan, inf, fin, eq, binary64, top, odd, ofFields, ofBits, nanBits, isNan}
 use lib.Ieee.Bits.{nanBits-is, nanBits-above}
 use borrow.Author.Tests.{lt-ltb, le-ltb, ltb-true, ltb-false, ne-eqb, eq-eqb}
 use Rattle.number.specs.Pattern.{isFinite, finiteOf}
@@ -25,6 +25,13 @@ only-nan (fin s m f) e = absurd (subst T (sym e) tt)
 
 pub is-nan : (p : ℕ) → nanBits binary64 p ≡ true → ofBits binary64 p ≡ nan
 is-nan p e = only-nan (ofBits binary64 p) (sym (nanBits-is binary64 p) ∙ e)
+
+-- what equals itself is no NaN, so it has a pattern of its own
+pub equal-itself-no-nan : (x : Float) → eq x x ≡ true → T (not (isNan x))
+unfolding eq isNan
+equal-itself-no-nan nan e = subst T (sym e) tt
+equal-itself-no-nan (inf s) e = tt
+equal-itself-no-nan (fin s m f) e = tt
 
 -- a pattern is a finite number's where its magnitude is below that of an infinity
 odd-finite : (d : ℕ) (s : Bool) (q k l : ℕ) → isFinite (odd d s q k l) ≡ true

@@ -1,20 +1,11 @@
 -- `number_vectors::pattern`: what equals itself is no NaN. Assumes nothing.
-use mathlib.Core.Path.{_≡_}
-use mathlib.Core.Bool.{true, not, false≢true}
-use lib.Dec.{T}
-use lib.Ieee.{Float, nan, inf, fin, eq, isNan}
 use borrow.Author.Needs.{needs}
+use Rattle.number.proofs.Patterns.{equal-itself-no-nan}
 use Rattle.number_vectors.proofs.pattern.Statement.{statement}
 use Rattle.number_vectors.proofs.pattern.Tie as tie
 
-number : (x : Float) → eq x x ≡ true → T (not (isNan x))
-unfolding eq isNan
-number nan h = absurd (false≢true h)
-number (inf s) h = tt
-number (fin s m e) h = tt
-
 float-to-bits-result : tie.Need-float-to-bits-result
-float-to-bits-result c = number _ (c .if1 .taken)
+float-to-bits-result c = equal-itself-no-nan _ (c .if1 .taken)
 
 returns : tie.Need-returns
 returns c = search needs
