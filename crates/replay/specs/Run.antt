@@ -1,12 +1,14 @@
 -- A run over the stored calls of a group: how many were met, how many were answered otherwise, and where the next one stands. Assumes nothing.
 use Prim.Native.Nat.{ℕ, zero, suc, _+_, _%_, _^_}
+use mathlib.Core.Path.{_≡_}
 use mathlib.Core.Bool.{Bool}
 use mathlib.Core.List.{List}
 use lib.Dec.{eqb}
 use Rattle.text.specs.Choice.{pick, both}
 use Rattle.layout.specs.Layout.{Tables}
 use Rattle.stored.specs.Stored.{placeAfter, wordBehind}
-use Rattle.stored.specs.Group.{Unpacked, unpackedOf}
+use Rattle.stored.specs.Input.{Refilled}
+use Rattle.stored.specs.Group.{Unpacked}
 use Rattle.replay.specs.declared.Run.{Run}
 use Rattle.replay.specs.declared.answer.Met.{Met}
 use Rattle.replay.specs.Calls.{groupTables, navigationOf, validationOf, equalityOf}
@@ -22,6 +24,12 @@ failedOf run = record { calls = run .calls; wrong = (run .wrong + 1) % 2 ^ 32; a
 
 unfoldable pub placedOf : Run → ℕ → Run
 placedOf run at = record { calls = run .calls; wrong = run .wrong; at = at; end = run .end }
+
+-- one whose words were read on: the words at hand stay, and nothing is counted
+pub record ReadOn (before after : List ℕ) (run next : Run) : Type 0 where
+  pub calls : next .calls ≡ run .calls
+  pub wrong : next .wrong ≡ run .wrong
+  pub held : Refilled before after (run .at) (run .end) (record { at = next .at; end = next .end })
 
 -- a call, by its number in the file's header
 unfoldable pub callOf : ℕ → List ℕ → Run → Tables → Run

@@ -9,7 +9,7 @@
 ghost use mathlib.Core.Path.{_≡_};
 ghost use Rattle.stored.specs.Group.{unpackedOf};
 ghost use Rattle.replay.specs.Calls.{groupTables};
-ghost use Rattle.replay.specs.Run.{countedOf, failedOf, placedOf, callOf, groupOf, isFile};
+ghost use Rattle.replay.specs.Run.{countedOf, failedOf, placedOf, ReadOn, callOf, groupOf, isFile};
 
 mod answer;
 mod equality;
@@ -58,7 +58,9 @@ fn fails(run: Run, line: &[u8]) -> Run
     }
 }
 
-fn refilled(run: Run, chunk: &mut [u8], input: &mut [u32]) -> Run {
+fn refilled(run: Run, chunk: &mut [u8], input: &mut [u32]) -> Run
+    ensures { λ r. ⌜ ReadOn (now (input .entry)) (now (input .exit)) run r ⌝ }
+{
     let held = stored::input::refill(chunk, input, run.at, run.end);
     Run {
         calls: run.calls,
