@@ -1,1 +1,3 @@
-pub mod Places
+pub mod Judging
+pub mod Called
+pub mod Running

@@ -1,1 +1,3 @@
-pub mod Stored
+pub mod Answer
+pub mod Calls
+pub mod Run

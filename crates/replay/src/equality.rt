@@ -1,9 +1,10 @@
 // A stored pair of nodes: whether the original was asked, the two nodes, and 1 where they are equal as JSON, for enum and for unique.
+ghost use mathlib.Core.Path.{_≡_};
+ghost use Rattle.replay.specs.Calls.{tablesOf, groupTables, equalOf, equalityOf};
 use crate::answer;
 use crate::answer::Met;
-use crate::stored;
-use crate::stored::Group;
 use number::equal::Equality;
+use stored::group::Group;
 
 // How many words are stored of a pair, and where the expected ones stand.
 const PAIR_WORDS: u32 = 5;
@@ -21,7 +22,9 @@ fn equal(
     words: &[u32],
     pool: &[u8],
     numbers: &[u64],
-) -> u32 {
+) -> u32
+    ensures { λ r. ⌜ r ≡ equalOf way (now (input .entry)) at (tablesOf ends (now (words .entry)) (now (pool .entry)) (now (numbers .entry))) ⌝ }
+{
     if json::equal_nodes(
         way,
         pool,
@@ -45,7 +48,9 @@ pub fn run(
     words: &[u32],
     bytes: &[u8],
     patterns: &[u64],
-) -> Met {
+) -> Met
+    ensures { λ r. ⌜ r ≡ equalityOf (now (input .entry)) at (groupTables group (now (words .entry)) (now (bytes .entry)) (now (patterns .entry))) ⌝ }
+{
     let ends = group.ends;
     let pool = text::part(bytes, 0, group.bytes);
     let numbers = stored::first_numbers(patterns, group.numbers);

@@ -6,14 +6,19 @@
 // 3,018 navigations and 783 validations, marked 1, the original was asked too, and agreed. The 2,016 pairs of nodes between them have
 // the original's answer: whether the two are equal as JSON, by its own conversion. The used counts of a call that is no compile have
 // to be NONE, whatever is stored.
+ghost use mathlib.Core.Path.{_≡_};
+ghost use Rattle.stored.specs.Group.{unpackedOf};
+ghost use Rattle.replay.specs.Calls.{groupTables};
+ghost use Rattle.replay.specs.Run.{countedOf, failedOf, placedOf, ReadOn, callOf, groupOf, isFile};
+
 mod answer;
 mod equality;
 mod navigation;
-mod stored;
 mod validation;
 
 use answer::Met;
-use stored::Group;
+use stored::group::Group;
+use stored::report;
 
 const OUT: i32 = 1;
 
@@ -41,7 +46,9 @@ struct Run {
 }
 
 // A run that cannot go on: its place is past the end.
-fn fails(run: Run, line: &[u8]) -> Run {
+fn fails(run: Run, line: &[u8]) -> Run
+    ensures { λ r. ⌜ r ≡ failedOf run ⌝ }
+{
     io::write_all(OUT, line);
     Run {
         calls: run.calls,
@@ -51,8 +58,10 @@ fn fails(run: Run, line: &[u8]) -> Run {
     }
 }
 
-fn refilled(run: Run, chunk: &mut [u8], input: &mut [u32]) -> Run {
-    let held = stored::refill(chunk, input, run.at, run.end);
+fn refilled(run: Run, chunk: &mut [u8], input: &mut [u32]) -> Run
+    ensures { λ r. ⌜ ReadOn (now (input .entry)) (now (input .exit)) run r ⌝ }
+{
+    let held = stored::input::refill(chunk, input, run.at, run.end);
     Run {
         calls: run.calls,
         wrong: run.wrong,
@@ -61,7 +70,9 @@ fn refilled(run: Run, chunk: &mut [u8], input: &mut [u32]) -> Run {
     }
 }
 
-fn placed(run: Run, at: usize) -> Run {
+fn placed(run: Run, at: usize) -> Run
+    ensures { λ r. ⌜ r ≡ placedOf run at ⌝ }
+{
     Run {
         calls: run.calls,
         wrong: run.wrong,
@@ -71,7 +82,9 @@ fn placed(run: Run, at: usize) -> Run {
 }
 
 // A run behind one more call.
-fn counted(run: Run, met: Met) -> Run {
+fn counted(run: Run, met: Met) -> Run
+    ensures { λ r. ⌜ r ≡ countedOf run met ⌝ }
+{
     Run {
         calls: std::num::wrapping_add_u32(run.calls, 1),
         wrong: std::num::wrapping_add_u32(run.wrong, met.wrong),
@@ -89,7 +102,9 @@ fn run_call(
     words: &[u32],
     pool: &[u8],
     numbers: &[u64],
-) -> Run {
+) -> Run
+    ensures { λ r. ⌜ r ≡ callOf call (now (input .entry)) run (groupTables group (now (words .entry)) (now (pool .entry)) (now (numbers .entry))) ⌝ }
+{
     let calls = std::num::wrapping_add_u32(run.calls, 1);
     match call {
         NAVIGATE => counted(
@@ -115,8 +130,10 @@ fn run_group(
     words: &mut [u32],
     pool: &mut [u8],
     numbers: &mut [u64],
-) -> Run {
-    let group = stored::unpack(input, before.at, words, pool, numbers);
+) -> Run
+    ensures { λ r. ⌜ r ≡ groupOf call (now (input .entry)) before (unpackedOf (now (input .entry)) (before .at) (now (words .entry)) (now (pool .entry)) (now (numbers .entry))) ⌝ }
+{
+    let group = stored::group::unpack(input, before.at, words, pool, numbers);
     let count = stored::word(input, group.after, 0);
     let mut run = placed(before, stored::after(group.after, 1));
     let mut i: u32 = 0;
@@ -154,7 +171,9 @@ fn run_file(
     refilled(run, chunk, input)
 }
 
-fn is_file(input: &[u32], at: usize) -> bool {
+fn is_file(input: &[u32], at: usize) -> bool
+    ensures { λ r. ⌜ r ≡ isFile (now (input .entry)) at ⌝ }
+{
     if stored::word(input, at, 0) == MARK {
         return stored::word(input, at, 1) == FORMAT;
     }
@@ -194,8 +213,8 @@ fn run_all(
         run = run_next(run, chunk, input, words, pool, numbers);
         files += 1;
     }
-    answer::print(run.calls, b" calls, ");
-    answer::print(run.wrong, b" wrong\n");
+    report::print(run.calls, b" calls, ");
+    report::print(run.wrong, b" wrong\n");
 }
 
 fn main() {

@@ -1,9 +1,10 @@
 // A stored navigation: whether the original was asked, the node, whether the key is wanted, the path, and the answer.
+ghost use mathlib.Core.Path.{_≡_};
+ghost use Rattle.replay.specs.Calls.{tablesOf, groupTables, navigatedOf, navigationOf};
 use crate::answer;
 use crate::answer::Met;
-use crate::stored;
-use crate::stored::Group;
 use checker::flat::Flat;
+use stored::group::Group;
 
 fn find(
     input: &[u32],
@@ -13,7 +14,9 @@ fn find(
     words: &[u32],
     pool: &[u8],
     numbers: &[u64],
-) -> Flat {
+) -> Flat
+    ensures { λ r. ⌜ r ≡ navigatedOf (now (input .entry)) at (now (path .entry)) (tablesOf ends (now (words .entry)) (now (pool .entry)) (now (numbers .entry))) ⌝ }
+{
     checker::qy_navigate(
         pool,
         stored::part(words, ends[0], ends[1]),
@@ -38,7 +41,9 @@ pub fn run(
     words: &[u32],
     pool: &[u8],
     numbers: &[u64],
-) -> Met {
+) -> Met
+    ensures { λ r. ⌜ r ≡ navigationOf (now (input .entry)) at (groupTables group (now (words .entry)) (now (pool .entry)) (now (numbers .entry))) ⌝ }
+{
     let path_at = stored::after(at, 4);
     let answer_at = stored::after(path_at, stored::word(input, at, 3));
     let ends = group.ends;

@@ -1,10 +1,21 @@
 // A stored validation: whether the original was asked, the mode, node and schema, the words of both path buffers, the answer, and both
 // paths.
+ghost use mathlib.Core.Path.{_≡_};
+ghost use lib.ListN.{length};
+ghost use Rattle.replay.specs.Calls.{
+  tablesOf,
+  groupTables,
+  validatedOf,
+  pathWord,
+  pathWrong,
+  leftMet,
+  withinOf,
+  validationOf,
+};
 use crate::answer;
 use crate::answer::Met;
-use crate::stored;
-use crate::stored::Group;
 use checker::flat::Flat;
+use stored::group::Group;
 
 // Where the words of both buffers stand.
 const INSTANCE_WORDS: u32 = 4;
@@ -37,7 +48,9 @@ fn validate(
     numbers: &[u64],
     instance: &mut [u32],
     steps: &mut [u32],
-) -> Flat {
+) -> Flat
+    ensures { λ r. ⌜ record { answer = r; instance = now (instance .exit); schema = now (steps .exit) } ≡ validatedOf (now (input .entry)) at (tablesOf ends (now (words .entry)) (now (pool .entry)) (now (numbers .entry))) (length (now (instance .entry))) (length (now (steps .entry))) ⌝ }
+{
     let texts = stored::part(words, ends[0], ends[1]);
     let nodes = stored::part(words, ends[1], ends[2]);
     let notes = stored::part(words, ends[2], ends[3]);
@@ -97,7 +110,9 @@ fn validate(
 }
 
 // The word that a path buffer has to have: those of the path, then 0.
-fn expected(input: &[u32], at: usize, count: u32, k: u32) -> u32 {
+fn expected(input: &[u32], at: usize, count: u32, k: u32) -> u32
+    ensures { λ r. ⌜ r ≡ pathWord (now (input .entry)) at count k ⌝ }
+{
     if k < count {
         return stored::word(input, at, k);
     }
@@ -113,7 +128,9 @@ fn compare_path(
     path: &[u32],
     length: u32,
     before: u32,
-) -> u32 {
+) -> u32
+    ensures { λ r. ⌜ r ≡ pathWrong (now (input .entry)) at count (now (path .entry)) length before ⌝ }
+{
     let mut wrong = before;
     let mut k: u32 = 0;
     while k < length {
@@ -131,14 +148,9 @@ fn compare_path(
 }
 
 // All that a call leaves: the answer, and both buffers to their ends.
-fn compare(
-    call: u32,
-    input: &[u32],
-    at: usize,
-    found: Flat,
-    instance: &[u32],
-    steps: &[u32],
-) -> Met {
+fn compare(call: u32, input: &[u32], at: usize, found: Flat, instance: &[u32], steps: &[u32]) -> Met
+    ensures { λ r. ⌜ r ≡ leftMet (now (input .entry)) at (record { answer = found; instance = now (instance .entry); schema = now (steps .entry) }) ⌝ }
+{
     let answer_at = stored::after(at, ANSWER);
     let count = stored::word(input, answer_at, STEPS);
     let kinds = stored::word(input, answer_at, KINDS);
@@ -182,7 +194,9 @@ fn judge(
     numbers: &[u64],
     instance: &mut [u32],
     steps: &mut [u32],
-) -> Met {
+) -> Met
+    ensures { λ r. ⌜ r ≡ leftMet (now (input .entry)) at (validatedOf (now (input .entry)) at (tablesOf ends (now (words .entry)) (now (pool .entry)) (now (numbers .entry))) (length (now (instance .entry))) (length (now (steps .entry)))) ⌝ }
+{
     let found = validate(input, at, ends, words, pool, numbers, instance, steps);
     compare(call, input, at, found, instance, steps)
 }
@@ -198,7 +212,9 @@ fn run_within(
     numbers: &[u64],
     instance: &mut [u32],
     steps: &mut [u32],
-) -> Met {
+) -> Met
+    ensures { λ r. ⌜ r ≡ withinOf (now (input .entry)) at (tablesOf ends (now (words .entry)) (now (pool .entry)) (now (numbers .entry))) (length (now (instance .entry))) (length (now (steps .entry))) ⌝ }
+{
     let start = 0;
     let instance_end = text::wide(stored::word(input, at, INSTANCE_WORDS));
     let steps_end = text::wide(stored::word(input, at, SCHEMA_WORDS));
@@ -231,7 +247,9 @@ pub fn run(
     words: &[u32],
     pool: &[u8],
     numbers: &[u64],
-) -> Met {
+) -> Met
+    ensures { λ r. ⌜ r ≡ validationOf (now (input .entry)) at (groupTables group (now (words .entry)) (now (pool .entry)) (now (numbers .entry))) ⌝ }
+{
     let mut instance = [GARBAGE; MOST_WORDS];
     let mut steps = [GARBAGE; MOST_WORDS];
     let ends = group.ends;

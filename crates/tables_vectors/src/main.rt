@@ -4,6 +4,7 @@
 // slices (pool, texts, nodes, notes, schemas, registry, patterns, links, numbers) and the answer: table and record, 0 and 0 where
 // all are good. A slice is its length, then how many words repeat up to that length and these words, then how many patches
 // there are and these, each a place and a word.
+use stored::report;
 use tables::check::Fault;
 
 const OUT: i32 = 1;
@@ -69,18 +70,12 @@ fn number(text: &[u8], from: usize) -> Read {
     digits(text, skip(text, from))
 }
 
-fn put(words: &mut [u32], at: usize, word: u32) {
-    if at < words.len() {
-        words[at] = word;
-    }
-}
-
 fn read_words(text: &[u8], from: usize, into: &mut [u32], count: u32) -> usize {
     let mut at = from;
     let mut i: u32 = 0;
     while i < count {
         let word = number(text, at);
-        put(into, i as usize, word.value);
+        stored::put(into, i as usize, word.value);
         at = word.after;
         i += 1;
     }
@@ -91,7 +86,7 @@ fn repeat(words: &mut [u32], period: u32, until: u32) {
     let mut i = period;
     while i < until {
         let word = text::word(words, (i - period) as usize);
-        put(words, i as usize, word);
+        stored::put(words, i as usize, word);
         i += 1;
     }
 }
@@ -102,7 +97,7 @@ fn patch(text: &[u8], from: usize, words: &mut [u32], count: u32) -> usize {
     while i < count {
         let place = number(text, at);
         let word = number(text, place.after);
-        put(words, place.value as usize, word.value);
+        stored::put(words, place.value as usize, word.value);
         at = word.after;
         i += 1;
     }
@@ -132,13 +127,6 @@ fn slice_at(text: &[u8], from: usize, buffer: &mut [u32], start: usize) -> Span 
     }
 }
 
-fn end_of(start: usize, length: u32) -> usize {
-    if start <= 4294967296 {
-        return start + length as usize;
-    }
-    start
-}
-
 fn slices(text: &[u8], from: usize, buffer: &mut [u32]) -> Layout {
     let mut ends = [0usize; 10];
     let mut at = from;
@@ -146,21 +134,12 @@ fn slices(text: &[u8], from: usize, buffer: &mut [u32]) -> Layout {
     let mut k: usize = 1;
     while k < 10 {
         let s = slice_at(text, at, buffer, end);
-        end = end_of(end, s.length);
+        end = stored::after(end, s.length);
         ends[k] = end;
         at = s.after;
         k += 1;
     }
     Layout { ends, after: at }
-}
-
-fn part(words: &[u32], start: usize, end: usize) -> &[u32] {
-    if end <= words.len() {
-        if start <= end {
-            return &words[start..end];
-        }
-    }
-    words
 }
 
 fn narrow(words: &[u32], pool: &mut [u8]) {
@@ -183,13 +162,6 @@ fn widen(words: &[u32], numbers: &mut [u64]) {
     }
 }
 
-fn first_numbers(numbers: &[u64], count: usize) -> &[u64] {
-    if count <= numbers.len() {
-        return &numbers[0..count];
-    }
-    numbers
-}
-
 fn answer_of(fault: Fault) -> Answer {
     match fault {
         Fault::Sound => Answer {
@@ -203,27 +175,27 @@ fn answer_of(fault: Fault) -> Answer {
 fn find_answer(pool: &[u8], words: &[u32], numbers: &[u64], ends: [usize; 10]) -> Answer {
     answer_of(tables::check::check_tables(
         pool,
-        part(words, ends[1], ends[2]),
-        part(words, ends[2], ends[3]),
-        part(words, ends[3], ends[4]),
-        part(words, ends[4], ends[5]),
-        part(words, ends[5], ends[6]),
-        part(words, ends[6], ends[7]),
-        part(words, ends[7], ends[8]),
+        stored::part(words, ends[1], ends[2]),
+        stored::part(words, ends[2], ends[3]),
+        stored::part(words, ends[3], ends[4]),
+        stored::part(words, ends[4], ends[5]),
+        stored::part(words, ends[5], ends[6]),
+        stored::part(words, ends[6], ends[7]),
+        stored::part(words, ends[7], ends[8]),
         numbers,
     ))
 }
 
 // The check's answer for slices that stand in one buffer.
 fn find_all(words: &[u32], pool: &mut [u8], numbers: &mut [u64], ends: [usize; 10]) -> Answer {
-    let bytes = part(words, 0, ends[1]);
-    let values = part(words, ends[8], ends[9]);
+    let bytes = stored::part(words, 0, ends[1]);
+    let values = stored::part(words, ends[8], ends[9]);
     narrow(bytes, pool);
     widen(values, numbers);
     find_answer(
         text::part(pool, 0, bytes.len()),
         words,
-        first_numbers(numbers, values.len()),
+        stored::first_numbers(numbers, values.len()),
         ends,
     )
 }
@@ -254,11 +226,6 @@ fn run_case(
     with_expected(text, s.after, found)
 }
 
-fn print(n: u32, then: &[u8]) {
-    io::print_decimal(OUT, n as u64);
-    io::write_all(OUT, then);
-}
-
 // How many are wrong, this case included.
 fn judge(number: u32, met: Met, wrong: u32) -> u32 {
     let expected = met.expected;
@@ -267,11 +234,11 @@ fn judge(number: u32, met: Met, wrong: u32) -> u32 {
         return wrong;
     }
     io::write_all(OUT, b"case ");
-    print(number, b": expected ");
-    print(expected.table, b" ");
-    print(expected.record, b", found ");
-    print(found.table, b" ");
-    print(found.record, b"\n");
+    report::print(number, b": expected ");
+    report::print(expected.table, b" ");
+    report::print(expected.record, b", found ");
+    report::print(found.table, b" ");
+    report::print(found.record, b"\n");
     std::num::wrapping_add_u32(wrong, 1)
 }
 
@@ -287,8 +254,8 @@ fn run_all(text: &[u8], words: &mut [u32], pool: &mut [u8], numbers: &mut [u64])
         i += 1;
         wrong = judge(i, met, wrong);
     }
-    print(cases, b" cases, ");
-    print(wrong, b" wrong\n");
+    report::print(cases, b" cases, ");
+    report::print(wrong, b" wrong\n");
 }
 
 fn main() {

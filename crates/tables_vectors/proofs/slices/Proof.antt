@@ -18,8 +18,8 @@ loop-holds c = search needs
 slice-at-requires : tie.Need-slice-at-requires Inv-loop μ-loop
 slice-at-requires c κs = search needs
 
-end-of-requires : tie.Need-end-of-requires Inv-loop μ-loop
-end-of-requires c κs = search needs
+after-requires : tie.Need-after-requires Inv-loop μ-loop
+after-requires c κs = search needs
 
 mul-ends : tie.Need-mul-ends Inv-loop μ-loop
 mul-ends c = search needs
@@ -50,7 +50,7 @@ slices-spec =
     μ-loop
     loop-holds
     slice-at-requires
-    end-of-requires
+    after-requires
     mul-ends
     array-write-ends
     add-k

@@ -1,17 +1,23 @@
--- `replay::validation::compare_path` is safe and ends: the measure is how many words are left. Assumes nothing.
+-- `replay::validation::compare_path`: the first words are judged, one more at each turn; the measure is how many words are left. Assumes nothing.
 use borrow.Author.Needs.{needs}
-use Prim.Native.Nat.{_-_}
+use Prim.Native.Nat.{_-_, _≤_}
+use native.Mathlib.Omega.{arith}
+use mathlib.Core.Path.{_≡_}
+use lib.ListN.{getD}
+use Rattle.replay.specs.Answer.{wrongIn}
+use Rattle.replay.specs.Calls.{pathWord, pathWrong}
+use Rattle.replay.proofs.Judging.{wrong-none, wrong-more, wrong-all}
 use Rattle.replay.proofs.validation.compare_path.Statement.{statement}
 use Rattle.replay.proofs.validation.compare_path.Tie as tie
 
 abbrev Inv-loop : tie.InvT-loop
-Inv-loop call fields input at count path length before wrong₀ k₀ wrong k = Unit
+Inv-loop call fields input at count path length before wrong₀ k₀ wrong k = (k ≤ length) × (wrong ≡ wrongIn (pathWord input at count) (λ j. getD path j 0) k before)
 
 abbrev μ-loop : tie.MeasureT-loop
 μ-loop call fields input at count path length before wrong₀ k₀ wrong k = length - k
 
 loop-holds : tie.Need-loop-holds Inv-loop μ-loop
-loop-holds c = search needs
+loop-holds c = (omega arith, wrong-none _ _ _)
 
 wrapping-add-u32-requires : tie.Need-wrapping-add-u32-requires Inv-loop μ-loop
 wrapping-add-u32-requires c κs = search needs
@@ -35,10 +41,11 @@ loop-less : tie.Need-loop-less Inv-loop μ-loop
 loop-less c = search needs
 
 loop-again : tie.Need-loop-again Inv-loop μ-loop
-loop-again c = search needs
+loop-again c = (omega arith, wrong-more _ _ _ _ (c .before .before .before .before .before .loop .inv .1) (c .before .before .expected .ensures) (c .before .word .ensures) (c .judge .ensures))
 
 returns : tie.Need-returns Inv-loop μ-loop
-returns c = search needs
+unfolding pathWrong
+returns c = wrong-all _ _ _ _ _ (c .before .loop .inv .1) (omega arith)
 
 pub compare-path-spec : {M : Type 1} → statement M
 compare-path-spec =

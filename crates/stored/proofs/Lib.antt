@@ -1,0 +1,4 @@
+pub mod Places
+pub mod Laying
+pub mod Reading
+pub mod Unpacking
