@@ -4,7 +4,7 @@ ghost use Rattle.error.specs.Answers.{answerOf, plainAnswer, badTable, f
 use number::tests::Range;
 
 // An optional word that is absent.
-pub const NONE: u32 = 4294967295;
+pub use text::NONE;
 
 // Instance steps take two words each, schema steps one: what 64 levels need.
 pub const INSTANCE_WORDS: usize = 128;

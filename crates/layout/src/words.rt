@@ -32,8 +32,7 @@ ghost use Rattle.layout.specs.Layout.{
   entryCount,
   patternCount,
 };
-
-pub const NONE: u32 = 4294967295;
+pub use text::NONE;
 
 // Words per record; a text's are `text`'s.
 pub const NODE_WORDS: usize = 4;

@@ -18,6 +18,9 @@ ghost use Rattle.text.specs.Text.{
   sameText,
 };
 
+// An optional word that is absent.
+pub const NONE: u32 = 4294967295;
+
 // The words of a text record, and where each of them stands in it.
 pub const TEXT_WORDS: usize = 2;
 
