@@ -8,6 +8,7 @@ use lib.Dec.{eqb}
 use lib.Ieee.{Float, nan, inf, fin, binary64, up, down, level, eq, ofBits, ofInt}
 use lib.Ieee.Fits.{down-pos}
 use borrow.Author.Tests.{eqb-true, eq-eqb}
+use Rattle.text.specs.Choice.{same-test}
 use Rattle.number.specs.Nearest.{nearestOf}
 use Rattle.number.specs.Pattern.{isFinite, finiteOf}
 use Rattle.number.specs.Equal.{mixedOf, signsAgree, equalRealsOf, equalNumbersOf, finiteNumber, ofSource}
@@ -23,12 +24,6 @@ both false q h = absurd (false≢true h)
 
 and-true : (p q : Bool) → p ≡ true → q ≡ true → (p && q) ≡ true
 and-true p q h k = ap₂ _&&_ h k
-
--- two tests that pass together are one
-pub same-test : (p q : Bool) → (p ≡ true → q ≡ true) → (q ≡ true → p ≡ true) → p ≡ q
-same-test true q h k = sym (h refl)
-same-test false true h k = k refl
-same-test false false h k = refl
 
 eqb-swap : (a b : ℕ) → eqb a b ≡ eqb b a
 eqb-swap a b = same-test (eqb a b) (eqb b a) (λ h. eq-eqb b a (sym (eqb-true a b h))) (λ h. eq-eqb a b (sym (eqb-true b a h)))

@@ -14,7 +14,8 @@ use Rattle.number.specs.Pattern.{isFinite, finiteOf}
 use Rattle.number.specs.Equal.{equalRealsOf, equalNumbersOf}
 use Rattle.number.specs.declared.equal.Equality.the-variants.{Unique}
 use Rattle.number.specs.declared.equal.Number.the-variants.{Real}
-use Rattle.number.proofs.Equalities.{both, same-test, level-true, equal-refl}
+use Rattle.text.specs.Choice.{same-test}
+use Rattle.number.proofs.Equalities.{both, level-true, equal-refl}
 
 -- ---- the sign of a finite number is its pattern's highest bit
 abbrev signOf : Float → Bool
