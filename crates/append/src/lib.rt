@@ -1,4 +1,6 @@
 // Appending to a lent table after its used words.
+#![tactic(auto)]
+
 ghost use Rattle.std.specs.Prelude.{◌≡◌};
 ghost use Rattle.append.specs.Append.{appended, append_of, cleared};
 

@@ -1,4 +1,6 @@
 // Whether bytes are ASCII alone: every part of them is then UTF-8.
+#![tactic(auto)]
+
 ghost use Rattle.std.specs.Prelude.{◌≡◌};
 ghost use Rattle.ascii.specs.Ascii.{larger_of, largest_of, ascii_of};
 

@@ -1,5 +1,7 @@
 // Compiling, once the tables are sound: eager references resolved, bases merged. The source is read below the used counts at entry,
 // what is built is appended. The functions call each other; `below` counts the levels that are left.
+#![tactic(auto)]
+
 ghost use Rattle.std.specs.Prelude.{◌≡◌, set, take};
 ghost use Rattle.text.specs.Choice.{pick};
 ghost use Rattle.merge.specs.Pairs.{span};
@@ -26,7 +28,7 @@ const LIST_COUNT: u32 = LIST + 1;
 const BASES_COUNT: u32 = BASES + 1;
 
 // What children became: the used counts and the stack's top; or the number of the refusal.
-#[derive(Drop)]
+#[derive(Clone, Copy)]
 pub struct Many {
     pub no: u32,
     pub used: Used,

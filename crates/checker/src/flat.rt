@@ -7,7 +7,7 @@ use number::tests::Range;
 
 // `qy_answer` of the header, in its order.
 #[repr(C)]
-#[derive(Drop)]
+#[derive(Clone, Copy)]
 pub struct Flat {
     pub number: u32,
     pub table: u32,
@@ -28,7 +28,7 @@ pub struct Flat {
 }
 
 // A detail's case by number, its two words, and its two numbers.
-#[derive(Drop)]
+#[derive(Clone, Copy)]
 struct Parts {
     kind: u32,
     a: u32,

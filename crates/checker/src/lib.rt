@@ -1,4 +1,6 @@
 // The C boundary: thin functions over the public calls. include/quarto_yaml.h is its other side.
+#![tactic(auto)]
+
 pub mod flat;
 mod span;
 

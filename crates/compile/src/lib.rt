@@ -1,4 +1,6 @@
 // Compiling: eager references resolved and bases merged, as new records of tables 3, 4 and 7.
+#![tactic(auto)]
+
 ghost use Rattle.std.specs.Prelude.{◌≡◌, ◌*◌, ◌≤◌, take};
 ghost use Rattle.layout.specs.Layout.{tables};
 ghost use Rattle.append.specs.Append.{cleared};

@@ -1,4 +1,6 @@
 // Merging: an object's bases, compiled, and its own record become one new object.
+#![tactic(auto)]
+
 ghost use Rattle.std.specs.Prelude.{◌≡◌, ◌≤◌};
 ghost use Rattle.text.specs.Choice.{pick};
 ghost use Rattle.append.specs.Append.{Grown};
@@ -19,7 +21,7 @@ const NOTE_ROOM: usize = MOST_NOTES * NOTE_WORDS;
 const SCHEMA_ROOM: usize = MOST_SCHEMAS * SCHEMA_WORDS;
 
 // What a schema became: the record, whether it is a new one, and the used counts; or the number of the refusal.
-#[derive(Drop)]
+#[derive(Clone, Copy)]
 pub struct Made {
     pub no: u32,
     pub rec: u32,

@@ -1,4 +1,6 @@
 // The answer of every call, and the mode of a check.
+#![tactic(auto)]
+
 ghost use Rattle.std.specs.Prelude.{◌≡◌};
 ghost use Rattle.error.specs.Answers.{answer_of, plainAnswer, badTable, foundRecord, refusalOf, withUsed};
 
@@ -13,14 +15,14 @@ pub const INSTANCE_WORDS: usize = 128;
 pub const SCHEMA_STEP_WORDS: usize = 64;
 
 // How lengths are counted and numbers compared; a call without a mode means Source.
-#[derive(Drop)]
+#[derive(Clone, Copy)]
 pub enum Mode {
     Source,
     Standard,
 }
 
 // What an answer says beside its number.
-#[derive(Drop)]
+#[derive(Clone, Copy)]
 pub enum Detail {
     Empty,
     // The schema kind expected and the node kind found: the numbers by which the name table is read.
@@ -38,7 +40,7 @@ pub enum Detail {
 }
 
 // How many records of tables 3, 4 and 7 are used, after a compile.
-#[derive(Drop)]
+#[derive(Clone, Copy)]
 pub struct Used {
     pub notes: u32,
     pub schemas: u32,
@@ -46,7 +48,7 @@ pub struct Used {
 }
 
 // A word that an answer does not have is NONE; counts of paths are counts of steps.
-#[derive(Drop)]
+#[derive(Clone, Copy)]
 pub struct Answer {
     pub number: u32,
     pub table: u32,

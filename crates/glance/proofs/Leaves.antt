@@ -19,7 +19,7 @@ use Rattle.error.specs.declared.Mode.{Mode}
 use Rattle.layout.specs.Layout.{NONE, node_kind, node_a, schema_word, list_first, list_count, string_minimum, string_maximum, string_pattern, number_minimum, number_maximum, number_exclusive_minimum, number_exclusive_maximum, number_multiple}
 use Rattle.lookup.specs.declared.Found.{Found}
 use Rattle.lookup.specs.Lookup.{key_is}
-use Rattle.json.specs.Value.{equal_nodes_of}
+use Rattle.json_equality.specs.Value.{equal_nodes_of}
 use Rattle.schema.specs.Look.{slice, own_words}
 use Rattle.schema.proofs.Slices.{own_word}
 use Rattle.judge.specs.declared.Verdict.{Verdict}

@@ -17,11 +17,11 @@ use Rattle.lookup.specs.declared.Found.{Found}
 use Rattle.lookup.specs.declared.Found.TheVariants.{At, Nothing}
 use Rattle.lookup.specs.Find.{first_from, last_below, found}
 use Rattle.lookup.specs.Lookup.{key_is, entry_key, entry_value, item_node, entry_has_key, last_entry}
-use Rattle.json.specs.declared.shape.Shape as shape
-use Rattle.json.specs.declared.shape.Shape.TheVariants as variants
-use Rattle.json.specs.Json.{Json, Items, item, equal_json}
-use Rattle.json.specs.Json as json
-use Rattle.json.specs.Value.{real_shape, parsed_shape, shape_by, shape_of, items_from, keyed, fields_from, json_of, value_at, value_of, equal_nodes_of}
+use Rattle.json_equality.specs.declared.shape.Shape as shape
+use Rattle.json_equality.specs.declared.shape.Shape.TheVariants as variants
+use Rattle.json_equality.specs.Json.{Json, Items, item, equal_json}
+use Rattle.json_equality.specs.Json as json
+use Rattle.json_equality.specs.Value.{real_shape, parsed_shape, shape_by, shape_of, items_from, keyed, fields_from, json_of, value_at, value_of, equal_nodes_of}
 use Rattle.schema.specs.Shape.{Own, Shape, array, object}
 use Rattle.schema.specs.Look.{slice}
 use Rattle.judge.specs.declared.Verdict.{Verdict}

@@ -1,4 +1,6 @@
 // What a derived object takes from its bases, which are compiled, and from its own record.
+#![tactic(auto)]
+
 ghost use Rattle.std.specs.Prelude.{◌≡◌, ℕ, ◌*◌, take, eqb};
 ghost use Rattle.text.specs.Choice.{pick};
 ghost use Rattle.layout.specs.Layout.{NONE, note_words, schema_word, schema_words};
@@ -12,7 +14,7 @@ use layout::words::NONE;
 use merge::{field, word};
 
 // The words of a merged object that are neither its note nor a list.
-#[derive(Drop)]
+#[derive(Clone, Copy)]
 pub struct Scalars {
     pub minimum: u32,
     pub maximum: u32,

@@ -1,4 +1,6 @@
 // Lists that merging joins: required texts, additional schemas, names. What is laid stands in the links after `at`, in order.
+#![tactic(auto)]
+
 ghost use Rattle.std.specs.Prelude.{◌≡◌, [], ◌∷◌, ℕ, ◌+◌, ◌*◌, ◌≤◌, ◌<◌, length, take, true, false};
 ghost use Rattle.layout.specs.Layout.{NONE, note_words, schema_words};
 ghost use Rattle.schema.specs.Look.{slice};
@@ -17,14 +19,14 @@ use merge::{Put, field, word};
 const CASE_DETECTION: u32 = 8;
 
 // How many schemas are offered, and the last of them or NONE.
-#[derive(Drop)]
+#[derive(Clone, Copy)]
 pub struct Offers {
     pub n: usize,
     pub last: u32,
 }
 
 // How many words each list of a merged object takes in the links, or no room.
-#[derive(Drop)]
+#[derive(Clone, Copy)]
 pub struct Lists {
     pub full: bool,
     pub properties: usize,

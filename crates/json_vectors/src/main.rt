@@ -1,4 +1,6 @@
 // Vectors of JSON equality, written from document 01: pairs of nodes of one table, and whether they are equal for enum, for unique and in standard mode.
+#![tactic(auto)]
+
 ghost use Rattle.std.specs.Prelude.{◌≤◌, ◌<◌, length};
 
 use number::equal::Equality;
@@ -87,7 +89,7 @@ fn wrong(k: u32, a: u32, b: u32, expected: bool) -> u64
         0x4340000000000000, // 2^53 as a real
         0x1, // 1 again
     ];
-    let equal = json::equal_nodes(way(k), pool, &texts, &nodes, &links, &numbers, a, b);
+    let equal = json_equality::equal_nodes(way(k), pool, &texts, &nodes, &links, &numbers, a, b);
     if equal == expected {
         return 0;
     }

@@ -21,7 +21,7 @@ use Rattle.lookup.specs.declared.Found.{Found}
 use Rattle.lookup.specs.declared.Found.TheVariants.{At, Nothing}
 use Rattle.lookup.specs.Find.{first_from, found}
 use Rattle.lookup.specs.Lookup.{entry_key, entry_has_key, last_entry, property_of}
-use Rattle.json.specs.Value.{equal_nodes_of}
+use Rattle.json_equality.specs.Value.{equal_nodes_of}
 use Rattle.schema.specs.Shape.{Own}
 use Rattle.schema.specs.Look.{slice}
 use Rattle.judge.specs.declared.Verdict.{Verdict}

@@ -1,4 +1,6 @@
 // What a schema's own words say of a node: everything in a visit that visits nothing.
+#![tactic(auto)]
+
 pub mod numeric;
 pub mod string;
 
@@ -17,7 +19,7 @@ use error::Detail;
 use layout::words;
 use layout::words::NONE;
 
-#[derive(Drop)]
+#[derive(Clone, Copy)]
 pub enum Verdict {
     Fine,
     // The answer's number, the node that it names, the detail.

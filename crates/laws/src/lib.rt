@@ -1,1 +1,2 @@
 // Theorems over the definitions of the other crates: there is no code here.
+#![tactic(auto)]

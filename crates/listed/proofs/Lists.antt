@@ -10,7 +10,7 @@ use Rattle.number.specs.declared.equal.Equality.{Equality}
 use Rattle.error.specs.declared.Mode.{Mode}
 use Rattle.error.specs.declared.Detail.TheVariants as detail
 use Rattle.layout.specs.Layout.{node_kind, node_a, node_b, list_first, list_count, array_minimum, array_maximum, array_unique}
-use Rattle.json.specs.Value.{equal_nodes_of}
+use Rattle.json_equality.specs.Value.{equal_nodes_of}
 use Rattle.schema.specs.Look.{slice, own_words}
 use Rattle.schema.proofs.Slices.{slice_begin, slice_more, slice-end, own_word}
 use Rattle.judge.specs.declared.Verdict.{Verdict}

@@ -1,4 +1,6 @@
 // An enum's listed nodes, and an array before its items.
+#![tactic(auto)]
+
 ghost use Rattle.std.specs.Prelude.{◌≡◌, ◌+◌, ◌-◌};
 ghost use Rattle.text.specs.Text.{text_of};
 ghost use Rattle.layout.specs.Layout.{list_first, list_count};
@@ -47,7 +49,7 @@ fn is_value_listed(
     let mut i = from;
     while i < count {
         let x = text::word(links, (first as usize) + (i as usize));
-        if json::equal_nodes(way, pool, texts, nodes, links, numbers, n, x) {
+        if json_equality::equal_nodes(way, pool, texts, nodes, links, numbers, n, x) {
             return true;
         }
         i += 1;

@@ -1,4 +1,6 @@
 // Lists in the links, and tests joined. Sums are taken in 64 bits, so that no damaged record wraps.
+#![tactic(auto)]
+
 ghost use Rattle.std.specs.Prelude.{◌≡◌, ◌+◌, ◌*◌, ◌≤◌, length};
 ghost use Rattle.text.specs.Choice.{both, either};
 ghost use Rattle.text.specs.Text.{text_of};

@@ -1,4 +1,6 @@
 // What is found by a text, compared by bytes: an object's entry, a property, a registry entry, a pattern's answer.
+#![tactic(auto)]
+
 ghost use Rattle.std.specs.Prelude.{◌≡◌};
 ghost use Rattle.text.specs.Text.{text_of, same_bytes, same_text};
 ghost use Rattle.lookup.specs.Lookup.{
@@ -18,7 +20,7 @@ ghost use Rattle.lookup.specs.Lookup.{
 
 use layout::{links, words};
 
-#[derive(Drop)]
+#[derive(Clone, Copy)]
 pub enum Found {
     At(u32),
     Nothing,

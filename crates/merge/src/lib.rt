@@ -1,4 +1,6 @@
 // Merging lists of key and value into the room after the used links.
+#![tactic(auto)]
+
 ghost use Rattle.std.specs.Prelude.{◌≡◌, ℕ, ◌+◌, ◌*◌, ◌-◌, ◌≤◌, ◌<◌, get_or, length, set, take, []};
 ghost use Rattle.text.specs.Text.{same_text};
 ghost use Rattle.layout.specs.Layout.{schema_word, schema_words};
@@ -9,7 +11,7 @@ ghost use Rattle.merge.specs.Meets.{Room, Reads, Placed, Gathers, Joins};
 use layout::words::{MOST_LINKS, SCHEMA_WORDS};
 
 // How many pairs stand now, or no room.
-#[derive(Drop)]
+#[derive(Clone, Copy)]
 pub struct Put {
     pub full: bool,
     pub n: usize,

@@ -1,5 +1,7 @@
 // The type names of nodes and of schemas: one constant table, read by node kind and by schema kind.
 // Assumes nothing.
+#![tactic(auto)]
+
 ghost use Rattle.std.specs.Prelude.{◌≡◌, ◌<◌};
 ghost use Rattle.names.specs.Names.{named, yaml_type_name, type_name, table_name};
 
@@ -37,7 +39,7 @@ const SCHEMAS: usize = 8;
 const UNKNOWN: usize = 20;
 
 // A name by value: its bytes, padded with 0, and how many of them count.
-#[derive(Drop)]
+#[derive(Clone, Copy)]
 pub struct Name {
     pub bytes: [u8; 8],
     pub len: usize,

@@ -1,4 +1,6 @@
 // Writes the name of every kind of node and of schema, and of the first number that is none, a line each.
+#![tactic(auto)]
+
 use names::Name;
 
 fn text(bytes: &[u8; 8], len: usize) {

@@ -1,4 +1,6 @@
 // Path navigation: from a node, by keys and indices, to a node.
+#![tactic(auto)]
+
 pub mod path;
 pub mod walk;
 

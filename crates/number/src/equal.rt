@@ -4,7 +4,7 @@ ghost use Rattle.number.specs.Equal.{equal_numbers_of, mixed_of, equal_reals_of}
 use crate::{integer, real};
 
 // How numbers compare: in source mode for enum and for unique, in standard mode for both.
-#[derive(Drop)]
+#[derive(Clone, Copy)]
 pub enum Equality {
     Enum,
     Unique,
@@ -12,7 +12,7 @@ pub enum Equality {
 }
 
 // A number of a document: an i64's word, or an f64's pattern.
-#[derive(Drop)]
+#[derive(Clone, Copy)]
 pub enum Number {
     Integer(u64),
     Real(u64),

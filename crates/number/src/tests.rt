@@ -2,7 +2,7 @@ ghost use Rattle.std.specs.Prelude.{◌≡◌};
 ghost use Rattle.number.specs.Check.{check_number_of, not_multiple_of};
 
 // The one bound that a value breaks: first the value, then the bound.
-#[derive(Drop)]
+#[derive(Clone, Copy)]
 pub enum Range {
     BelowMinimum(f64, f64),
     AboveMaximum(f64, f64),
@@ -11,7 +11,7 @@ pub enum Range {
 }
 
 // What the tests of a number schema answer; NotMultiple has first the value, then the multiple.
-#[derive(Drop)]
+#[derive(Clone, Copy)]
 pub enum NumberCheck {
     Passes,
     OutOfRange(Range),
@@ -19,7 +19,7 @@ pub enum NumberCheck {
 }
 
 // The bounds of a number schema; an absent one is NaN, which passes every test.
-#[derive(Drop)]
+#[derive(Clone, Copy)]
 pub struct Bounds {
     pub minimum: f64,
     pub maximum: f64,

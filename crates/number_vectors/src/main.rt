@@ -1,4 +1,6 @@
 // Vectors of rounding, of the five tests and of equality, as IEEE 754 and the rules give them: this prints what the code answers.
+#![tactic(auto)]
+
 ghost use Rattle.std.specs.Prelude.{◌<◌, length};
 
 use number::equal::{Equality, Number};

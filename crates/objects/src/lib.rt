@@ -1,4 +1,6 @@
 // An object before its entries.
+#![tactic(auto)]
+
 ghost use Rattle.std.specs.Prelude.{◌≡◌};
 ghost use Rattle.text.specs.Text.{text_of};
 ghost use Rattle.layout.specs.Layout.{

@@ -1,5 +1,7 @@
 // What stands below the recursion: where a schema leads, and appending what a compiled record holds: the numbers of its children, and the
 // words of a plain object.
+#![tactic(auto)]
+
 ghost use Rattle.std.specs.Prelude.{◌≡◌, ◌*◌, ◌≤◌, ◌<◌, take, eqb};
 ghost use Rattle.layout.specs.Layout.{NONE, schema_word, schema_words};
 ghost use Rattle.merge.specs.Pairs.{span};
@@ -25,7 +27,7 @@ pub const PATTERN_COUNT: u32 = PATTERN_PROPERTIES + 1;
 const REQUIRED_COUNT: u32 = REQUIRED + 1;
 
 // Where a schema leads: a record that is its own answer, a refusal, or a record to build with so many levels left below it.
-#[derive(Drop)]
+#[derive(Clone, Copy)]
 pub enum Lead {
     Leaf(u32),
     Refuse(u32),

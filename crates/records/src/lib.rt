@@ -1,4 +1,6 @@
 // When a record of tables 1, 2, 3, 5 and 6 is good.
+#![tactic(auto)]
+
 ghost use Rattle.std.specs.Prelude.{◌≡◌};
 ghost use Rattle.ascii.specs.Ascii.{ascii_of};
 ghost use Rattle.records.specs.Records.{
@@ -20,7 +22,7 @@ use layout::words::NONE;
 use lists::{both, list_below, optional_below};
 
 // How many records there are to name.
-#[derive(Drop)]
+#[derive(Clone, Copy)]
 pub struct Counts {
     pub texts: usize,
     pub nodes: usize,

@@ -7,7 +7,7 @@ use Rattle.error.specs.declared.Mode.{Mode}
 use Rattle.error.specs.declared.Mode.TheVariants.{Source, Standard}
 use Rattle.number.specs.declared.equal.Equality.{Equality}
 use Rattle.number.specs.declared.equal.Equality.TheVariants.{Enum, Unique}
-use Rattle.json.specs.Value.{equal_nodes_of}
+use Rattle.json_equality.specs.Value.{equal_nodes_of}
 use Rattle.navigate.specs.Navigate.{navigate_of}
 use Rattle.validator.specs.Validate.{validate_of}
 use Rattle.checker.specs.Flat.{flat_of}

@@ -25,7 +25,7 @@ const VALUE: u32 = 14;
 const BOUND: u32 = 16;
 
 // What became of a call: 1 where the answer is another than the stored one, and the place behind what is stored of it.
-#[derive(Drop)]
+#[derive(Clone, Copy)]
 pub struct Met {
     pub wrong: u32,
     pub after: usize,

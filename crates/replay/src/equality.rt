@@ -26,7 +26,7 @@ fn equal(
 ) -> u32
     ensures { result ≡ equal_of way input.now at (tables_of ends words.now pool.now numbers.now) }
 {
-    if json::equal_nodes(
+    if json_equality::equal_nodes(
         way,
         pool,
         stored::part(words, ends[0], ends[1]),

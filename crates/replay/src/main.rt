@@ -6,6 +6,8 @@
 // 3,018 navigations and 783 validations, marked 1, the original was asked too, and agreed. The 2,016 pairs of nodes between them have
 // the original's answer: whether the two are equal as JSON, by its own conversion. The used counts of a call that is no compile have
 // to be NONE, whatever is stored.
+#![tactic(auto)]
+
 ghost use Rattle.std.specs.Prelude.{◌≡◌};
 ghost use Rattle.stored.specs.Group.{unpacked_of};
 ghost use Rattle.replay.specs.Calls.{group_tables};
@@ -38,7 +40,7 @@ const EQUAL: u32 = 3;
 const MOST_FILES: u32 = 16;
 
 // How far the run is: calls met, calls answered otherwise, and the words that are at hand.
-#[derive(Drop)]
+#[derive(Clone, Copy)]
 struct Run {
     calls: u32,
     wrong: u32,

@@ -1,2 +1,4 @@
 // When a schema record is good.
+#![tactic(auto)]
+
 pub mod schemas;

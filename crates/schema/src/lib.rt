@@ -1,1 +1,2 @@
 // Schema records as data types, for the definitions of the visit and of compiling.
+#![tactic(auto)]

@@ -18,7 +18,7 @@ ghost use Rattle.stored.specs.Group.{
 use crate::{after, number, pair, put, put_byte, put_number, word};
 
 // A slice as stored: how long it is lent, how many elements are stored, and the element that fills the rest.
-#[derive(Drop)]
+#[derive(Clone, Copy)]
 struct Extent {
     length: u32,
     kept: u32,
@@ -33,13 +33,13 @@ const HEADS_WORDS: u32 = 27;
 const LAST_HEAD: u32 = 24;
 
 // Tables 1 to 7 stand one after the other in one buffer: table k ends at ends[k], where the next one starts.
-#[derive(Drop)]
+#[derive(Clone, Copy)]
 struct Tables {
     ends: [usize; 8],
     after: usize,
 }
 
-#[derive(Drop)]
+#[derive(Clone, Copy)]
 pub struct Group {
     pub ends: [usize; 8],
     pub bytes: usize,

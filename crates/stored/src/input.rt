@@ -10,7 +10,7 @@ const IN: i32 = 0;
 const GROUP_WORDS: usize = 32768;
 
 // The words that are read and not run yet: those from at to end.
-#[derive(Drop)]
+#[derive(Clone, Copy)]
 pub struct Held {
     pub at: usize,
     pub end: usize,

@@ -1,4 +1,6 @@
 // Words, parts and numbers of stored files. A read past the end gives 0, a write past it nothing.
+#![tactic(auto)]
+
 pub mod group;
 pub mod input;
 pub mod report;

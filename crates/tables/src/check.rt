@@ -20,7 +20,7 @@ use lists::both;
 use records::Counts;
 
 // What the check finds: nothing, or a table and its first bad record, NONE for a size.
-#[derive(Drop)]
+#[derive(Clone, Copy)]
 pub enum Fault {
     Sound,
     Bad { table: u32, record: u32 },

@@ -4,37 +4,39 @@
 // slices (pool, texts, nodes, notes, schemas, registry, patterns, links, numbers) and the answer: table and record, 0 and 0 where
 // all are good. A slice is its length, then how many words repeat up to that length and these words, then how many patches
 // there are and these, each a place and a word.
+#![tactic(auto)]
+
 use stored::report;
 use tables::check::Fault;
 
 const OUT: i32 = 1;
 
-#[derive(Drop)]
+#[derive(Clone, Copy)]
 struct Read {
     value: u32,
     after: usize,
 }
 
-#[derive(Drop)]
+#[derive(Clone, Copy)]
 struct Span {
     length: u32,
     after: usize,
 }
 
 // The nine slices stand one after the other in one buffer: slice k ends at ends[k + 1].
-#[derive(Drop)]
+#[derive(Clone, Copy)]
 struct Layout {
     ends: [usize; 10],
     after: usize,
 }
 
-#[derive(Drop)]
+#[derive(Clone, Copy)]
 struct Answer {
     table: u32,
     record: u32,
 }
 
-#[derive(Drop)]
+#[derive(Clone, Copy)]
 struct Met {
     expected: Answer,
     found: Answer,

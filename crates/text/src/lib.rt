@@ -1,4 +1,6 @@
 // Texts: parts of a lent pool of bytes, found by number in a table of records. Reads are total: 0 past the end.
+#![tactic(auto)]
+
 pub mod utf8;
 
 ghost use Rattle.std.specs.Prelude.{◌≡◌, ◌<◌, length, get_or};

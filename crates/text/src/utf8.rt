@@ -3,7 +3,7 @@ ghost use Rattle.std.specs.Prelude.{◌≡◌, ◌≤◌, length, drop};
 ghost use Rattle.text.specs.Utf8.{wait, start, run, lead_of, step_of, utf8_of, point_of, code_points_of};
 
 // left more octets of a character are awaited, of which the next lies from lo to hi.
-#[derive(Drop)]
+#[derive(Clone, Copy)]
 struct Wait {
     left: u32,
     lo: u8,

@@ -1,4 +1,6 @@
 // Runs RFC 3629's examples, the edges of its grammar, what its grammar leaves out, and lookups of texts: a line for each.
+#![tactic(auto)]
+
 const OUT: i32 = 1;
 
 // A row: how many octets, how many code points or '-' where they are no UTF-8, then nine octets of which dots fill up the last.

@@ -1,4 +1,6 @@
 // Validation: a value against a schema.
+#![tactic(auto)]
+
 mod paths;
 mod quick;
 mod walk;
@@ -14,7 +16,7 @@ use paths::Visited;
 use tables::check::Fault;
 
 // What comes before the work: an answer, or the work.
-#[derive(Drop)]
+#[derive(Clone, Copy)]
 pub enum Begun {
     Answered(Answer),
     Visit,

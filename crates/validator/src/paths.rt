@@ -11,7 +11,7 @@ use judge::Verdict;
 use layout::{schema as fields, words};
 
 // An error, with how many steps each path has in all.
-#[derive(Drop)]
+#[derive(Clone, Copy)]
 pub struct Refusal {
     pub number: u32,
     pub node: u32,
@@ -23,7 +23,7 @@ pub struct Refusal {
 }
 
 // What a visit found: an invalid pattern leaves no error, only its instance path; 23, 24 and 25 end everything.
-#[derive(Drop)]
+#[derive(Clone, Copy)]
 pub enum Visited {
     Accepted,
     Refused(Refusal),

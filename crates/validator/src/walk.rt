@@ -31,7 +31,7 @@ use layout::{schema as fields, words};
 use lookup::Found;
 
 // What an object's entry with a string key is asked: to meet a schema, not to be there, or nothing.
-#[derive(Drop)]
+#[derive(Clone, Copy)]
 pub enum Choice {
     Part(u32),
     Closed,
