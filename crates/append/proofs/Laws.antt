@@ -1,15 +1,15 @@
 -- What the proofs cite on appending. Assumes nothing.
 use mathlib.Core.Path.{◌≡◌, refl, sym, ap, ◌∙◌}
 use mathlib.Core.Bool.{Bool, true, false}
-use mathlib.Core.List.{List, [], ◌∷◌, ◌++◌, append-nil, append_assoc}
-use Prim.Native.Nat.{ℕ, suc, ◌+◌, ◌-◌, ◌<◌, ◌≤◌}
+use mathlib.Core.List.{List, ◌++◌, append-nil, append_assoc}
+use Prim.Native.Nat.{ℕ, ◌+◌, ◌-◌, ◌<◌, ◌≤◌}
 use native.Mathlib.Numerals.{add-one}
 use native.Mathlib.Omega.{arith}
 use borrow.Author.Tests.{lt-leb, le-leb, leb-true}
 use lib.Dec.{leb}
 use lib.ListN.{length, get_or, take, drop, set, replicate, length-replicate, get_or-replicate, drop_of_length-le, length-append, length-drop}
 use lib.Seq.{paste, paste-zero, paste-suc, take-length, take_all, length-take-le, take_at}
-use Rattle.text.specs.Choice.{both, pick, both-holds, both_fails_left, both_fails_right, both_left, both_right}
+use Rattle.text.specs.Choice.{pick, both-holds, both_fails_left, both_fails_right, both_left, both_right}
 use Rattle.append.specs.Append.{room, put, Appended, appended, append_of, cleared, Grown}
 
 module _ (limit lent used n : ℕ) where
