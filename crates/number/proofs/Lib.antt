@@ -6,3 +6,8 @@ pub mod Rounding
 pub mod Remainder
 pub mod Equalities
 pub mod SamePattern
+pub mod Doubling
+pub mod Step
+pub mod Short
+pub mod Magnitudes
+pub mod Cases

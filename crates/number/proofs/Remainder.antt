@@ -7,7 +7,7 @@ use lib.Ieee.Fits.{down_pos}
 use lib.Ieee.Exact.{HasValue, round_exact}
 use Rattle.number.proofs.Units.{small, bounded, units_are, lt_or_ge, again, scaled}
 
-mod_scale : (a b c : ℕ) → 0 < b → 0 < c → a * c % (b * c) ≡ a % b * c
+pub mod_scale : (a b c : ℕ) → 0 < b → 0 < c → a * c % (b * c) ≡ a % b * c
 mod_scale a b c B C =
     ap (λ (x : ℕ). x * c % (b * c)) (sym (div-add-mod' a b))
     ∙ ap (λ (x : ℕ). x % (b * c)) (add-mul (a / b * b) (a % b) c ∙ ap (λ (x : ℕ). x + a % b * c) (mul_assoc (a / b) b c))
@@ -20,7 +20,7 @@ record Short (x : ℕ) : Type 0 where
   few : digits < 2 ^ 53
   whole : x ≡ digits * 2 ^ power
 
-move : (m i j : ℕ) → i ≤ j → m * 2 ^ j ≡ m * 2 ^ (j - i) * 2 ^ i
+pub move : (m i j : ℕ) → i ≤ j → m * 2 ^ j ≡ m * 2 ^ (j - i) * 2 ^ i
 move m i j h = ap (λ (x : ℕ). m * x) (ap (λ (x : ℕ). 2 ^ x) (sym (again j i h)) ∙ pow-add 2 (j - i) i) ∙ sym (mul_assoc m (2 ^ (j - i)) (2 ^ i))
 
 -- so is the remainder of two such: its digits are no more than those of the one with the smaller power

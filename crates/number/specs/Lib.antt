@@ -2,3 +2,4 @@ pub mod Nearest
 pub mod Pattern
 pub mod Check
 pub mod Equal
+pub mod Magnitude

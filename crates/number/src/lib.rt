@@ -3,5 +3,6 @@
 
 pub mod equal;
 pub mod integer;
+pub mod multiple;
 pub mod real;
 pub mod tests;

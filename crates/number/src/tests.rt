@@ -1,5 +1,7 @@
 ghost use Rattle.std.specs.Prelude.{◌≡◌};
-ghost use Rattle.number.specs.Check.{check_number_of, not_multiple_of};
+ghost use Rattle.number.specs.Check.{check_number_of};
+
+use crate::multiple;
 
 // The one bound that a value breaks: first the value, then the bound.
 #[derive(Clone, Copy)]
@@ -28,20 +30,6 @@ pub struct Bounds {
     pub multiple_of: f64,
 }
 
-// abs(value % multiple) > 2^-52; the remainder, a call of fmod, is not made for an absent multiple.
-fn not_multiple(value: f64, multiple: f64) -> bool
-    ensures { result ≡ not_multiple_of value multiple }
-{
-    if multiple != multiple {
-        return false;
-    }
-    let rest = value % multiple;
-    if rest > 2.220446049250313e-16 {
-        return true;
-    }
-    rest < -2.220446049250313e-16
-}
-
 // The first of the five tests that fails, in order.
 pub fn check_number(value: f64, bounds: Bounds) -> NumberCheck
     ensures { result ≡ check_number_of value bounds }
@@ -64,7 +52,7 @@ pub fn check_number(value: f64, bounds: Bounds) -> NumberCheck
             bounds.exclusive_maximum,
         ));
     }
-    if not_multiple(value, bounds.multiple_of) {
+    if multiple::not_multiple(value, bounds.multiple_of) {
         return NumberCheck::NotMultiple(value, bounds.multiple_of);
     }
     NumberCheck::Passes
