@@ -1,5 +1,5 @@
 -- What a record of table 4 says, read from the words of tables 3, 4 and 7. Assumes nothing.
-use Rattle.std.specs.Prelude.{ℕ, zero, suc, ◌+◌, Bool, true, false, List, [], ◌∷◌, get_or, eqb, leb}
+use Rattle.std.specs.Prelude.{ℕ, zero, suc, ◌+◌, Bool, false, List, [], ◌∷◌, get_or, eqb, leb}
 use Rattle.std.proofs.Math.Option.{Option, some, none}
 use Rattle.text.specs.Choice.{pick}
 use Rattle.layout.specs.Layout.{Tables, NONE, note_id, note_description, note_documentation, note_error_message, note_hidden, note_completions, note_additional_completions, note_tags, note_case_detection, schema_word, schema_kind, schema_note, list_first, list_count, array_items, properties_first, properties_count, pattern_properties_first, pattern_properties_count, additional_properties, required_first, required_count, object_minimum, object_maximum, object_closed, property_names, naming_convention, bases_first, bases_count, ref_text, ref_eager, pair_key, pair_value}
@@ -108,11 +108,11 @@ note_detects (some x) = eqb x.detection 1
 
 unfoldable pub detecting : {A : Type 0} → Shape A → Bool
 detecting (plain w) = pick (eqb w.kind 3) (note_detects w.note) false
-detecting (any_of note xs) = false
-detecting (all_of note xs) = false
+detecting (any_of _ xs) = false
+detecting (all_of _ xs) = false
 detecting (array w x) = false
 detecting (object o) = false
-detecting (ref note t b) = false
+detecting (ref _ t b) = false
 
 unfoldable pub sort_names : (ℕ → Bool) → Names ℕ → Names ℕ
 sort_names f nameless = nameless
