@@ -1,0 +1,12 @@
+use mathlib.Core.Path.{◌≡◌}
+use Prim.Native.Nat.{◌≤◌, ◌-◌}
+use Rattle.layout.specs.Layout.{node_count}
+use Rattle.layout.specs.Walk.{first}
+use Rattle.records.specs.Records.{node_ok}
+use Rattle.tables.proofs.walk.nodes_fault.Given as goal
+
+abbrev pub invariant-loop-node : goal.invariant-loop-node
+invariant-loop-node l = (l.node ≤ node_count l.nodes) × (first (node_ok l.z l.links l.nodes) l.node (node_count l.nodes) ≡ first (node_ok l.z l.links l.nodes) 0 (node_count l.nodes))
+
+abbrev pub decreases-loop-node : goal.decreases-loop-node
+decreases-loop-node l = node_count l.nodes - l.node
