@@ -1,0 +1,12 @@
+use Prim.Native.Nat.{◌-◌}
+use mathlib.Core.Path.{◌≡◌}
+use Rattle.layout.specs.Layout.{node_b}
+use Rattle.lookup.specs.Find.{first_from}
+use Rattle.judge.specs.Judge.{is_duplicate}
+use Rattle.objects.proofs.check_keys.Given as goal
+
+abbrev pub invariant-loop-k : goal.invariant-loop-k
+invariant-loop-k l = first_from (is_duplicate l.pool l.texts l.nodes l.links l.n) l.k (l.count - l.k) ≡ first_from (is_duplicate l.pool l.texts l.nodes l.links l.n) 0 (node_b l.nodes l.n)
+
+abbrev pub decreases-loop-k : goal.decreases-loop-k
+decreases-loop-k l = l.count - l.k
