@@ -1,8 +1,8 @@
-// The C boundary: thin functions over the public calls. include/quarto_yaml.h is its other side.
+// The calls of the C boundary, which `checker_c` exports: thin functions over the public calls.
 #![tactic(auto)]
 
 pub mod flat;
-mod span;
+pub mod span;
 
 ghost use Rattle.std.specs.Prelude.{◌≡◌, length};
 ghost use Rattle.layout.specs.Layout.{tables};
@@ -19,8 +19,7 @@ use error::Mode;
 use flat::Flat;
 use span::Span;
 
-#[unsafe(no_mangle)]
-pub extern "C" fn qy_navigate(
+pub fn qy_navigate(
     pool: &[u8],
     texts: &[u32],
     nodes: &[u32],
@@ -42,16 +41,14 @@ pub extern "C" fn qy_navigate(
     ))
 }
 
-#[unsafe(no_mangle)]
-pub extern "C" fn qy_text(pool: &[u8], texts: &[u32], n: u32) -> Span
+pub fn qy_text(pool: &[u8], texts: &[u32], n: u32) -> Span
     ensures { result ≡ span_of pool.now texts.now n }
 {
     span::text_span(pool, texts, n)
 }
 
 // A value against a schema; no mode means source mode.
-#[unsafe(no_mangle)]
-pub extern "C" fn qy_validate(
+pub fn qy_validate(
     pool: &[u8],
     texts: &[u32],
     nodes: &[u32],
@@ -75,8 +72,7 @@ pub extern "C" fn qy_validate(
 }
 
 // The same, in source mode by name.
-#[unsafe(no_mangle)]
-pub extern "C" fn qy_validate_source(
+pub fn qy_validate_source(
     pool: &[u8],
     texts: &[u32],
     nodes: &[u32],
@@ -112,8 +108,7 @@ pub extern "C" fn qy_validate_source(
 }
 
 // The same, in standard mode.
-#[unsafe(no_mangle)]
-pub extern "C" fn qy_validate_standard(
+pub fn qy_validate_standard(
     pool: &[u8],
     texts: &[u32],
     nodes: &[u32],
@@ -149,8 +144,7 @@ pub extern "C" fn qy_validate_standard(
 }
 
 // A schema compiled: its record and those that it needs stand behind the used records of tables 3, 4 and 7.
-#[unsafe(no_mangle)]
-pub extern "C" fn qy_compile(
+pub fn qy_compile(
     pool: &[u8],
     texts: &[u32],
     nodes: &[u32],
@@ -165,7 +159,7 @@ pub extern "C" fn qy_compile(
     numbers: &[u64],
     schema: u32,
 ) -> Flat
-    ensures { record { answer = result; notes = notes.exit.now; schemas = schemas.new; links = links.new } ≡ left_tables_of (compile_of (tables pool.now texts.now nodes.now notes.entry.now schemas.old registry.now patterns.now links.old numbers.now) (record { notes = used_notes; schemas = used_schemas; links = used_links }) schema) }
+    ensures { record { answer = result; notes = notes.new; schemas = schemas.new; links = links.new } ≡ left_tables_of (compile_of (tables pool.now texts.now nodes.now notes.old schemas.old registry.now patterns.now links.old numbers.now) (record { notes = used_notes; schemas = used_schemas; links = used_links }) schema) }
 {
     flat::flatten(compile::compile(
         pool,
