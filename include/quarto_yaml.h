@@ -1,6 +1,6 @@
 /* quarto_yaml.h: check and navigate wheel files that stand in tables, and compile their schemas.
  *
- * Link with libchecker.a (`rt lib` in crates/checker_c makes it, as out/libchecker_c.a).
+ * Link with libchecker.a, which host/archive makes.
  *
  * Tables. A file, its schemas and all their texts are lent as eight tables of
  * words and one pool of bytes. The library reads them where they lie: it

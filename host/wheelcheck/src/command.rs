@@ -57,7 +57,7 @@ fn ready(checker: Option<Box<dyn Checker>>) -> Result<Box<dyn Checker>, Box<Fail
             name: "wheelcheck".to_string(),
             source: None,
             trouble: Trouble::of_file(message)
-                .hint("'rt staticlib checker' makes the library anew"),
+                .hint("'host/archive --anew' makes the library anew"),
         })
     };
     let checker = checker.ok_or_else(|| wrong("the proved library is missing".to_string()))?;
