@@ -1,18 +1,18 @@
 -- Pairs written in place.
 use Prim.Native.Nat.{ℕ, zero, suc, ◌+◌, ◌-◌, ◌*◌, ◌≤◌, ◌<◌}
-use mathlib.Core.Path.{◌≡◌, refl, sym, ap, ◌∙◌}
+use mathlib.Core.Path.{◌≡◌, refl, sym, ap, subst, ◌∙◌}
 use mathlib.Core.Bool.{Bool, true, false}
 use mathlib.Core.List.{List, [], ◌∷◌, ◌++◌, append_assoc, append-nil}
 use native.Mathlib.Omega.{arith}
 use native.Mathlib.Numerals.{add-one}
-use lib.ListN.{length, get_or, take, drop, set, length-set, length-append}
+use lib.ListN.{length, get_or, take, set, length-set, length-append}
 use lib.Seq.{take-length, take-set-le, get_or-set_same, get_or-set_other, take-suc}
 use Rattle.text.specs.Choice.{pick}
 use Rattle.layout.specs.Layout.{most_links, schema_word}
 use Rattle.schema.specs.Shape.{Pair}
 use Rattle.merge.specs.Merge.{put, put_all}
 use Rattle.merge.specs.Pairs.{pair, pairs_at, flat_pairs, merge_all, record_pairs, span}
-use Rattle.merge.specs.Meets.{Room, Reads, Placed, Gathers, Joins}
+use Rattle.merge.specs.Meets.{Room, Reads, Placed, Gathers}
 use Rattle.merge.specs.declared.Put.{Put}
 use Rattle.merge.proofs.Lists.{part_same}
 
@@ -48,14 +48,13 @@ pairs_set L at k v (suc n) zero h l =
     let a : get_or (both-set L at k v) at 0 ≡ k = get_or-set_other (set L at k) (at + 1) at v 0 (λ z. omega arith) ∙ get_or-set_same L at k 0 (omega arith) in
     let b : get_or (both-set L at k v) (at + 1) 0 ≡ v = get_or-set_same (set L at k) (at + 1) v 0 (rw length-set (omega arith)) in
     let r : pairs_at (both-set L at k v) (at + 2) n ≡ pairs_at L (at + 2) n = pairs_above (set L at k) (at + 1) v (at + 2) n (omega arith) ∙ pairs_above L at k (at + 2) n (omega arith) in
-    rw (e, m, a, b, r)
+    rw (e, m) (rw (a, b) (ap (λ (x : List (Pair ℕ)). pair k v ∷ x) (subst (λ (i : ℕ). pairs_at (both-set L i k v) (at + 2) n ≡ pairs_at L (at + 2) n) (sym e) r)))
 pairs_set L at k v (suc n) (suc j) h l =
     let e : at + suc j * 2 ≡ at + 2 + j * 2 = omega arith in
     let m : suc n - (suc j + 1) ≡ n - (j + 1) = omega arith in
-    let i : ℕ = at + 2 + j * 2 in
     let a : get_or (both-set L (at + 2 + j * 2) k v) at 0 ≡ get_or L at 0 = get_or-set_other (set L (at + 2 + j * 2) k) (at + 2 + j * 2 + 1) at v 0 (λ z. omega arith) ∙ get_or-set_other L (at + 2 + j * 2) at k 0 (λ z. omega arith) in
     let b : get_or (both-set L (at + 2 + j * 2) k v) (at + 1) 0 ≡ get_or L (at + 1) 0 = get_or-set_other (set L (at + 2 + j * 2) k) (at + 2 + j * 2 + 1) (at + 1) v 0 (λ z. omega arith) ∙ get_or-set_other L (at + 2 + j * 2) (at + 1) k 0 (λ z. omega arith) in
-    rw (e, m, a, b) (ap (λ (l : List (Pair ℕ)). pair (get_or L at 0) (get_or L (at + 1) 0) ∷ l) (pairs_set L (at + 2) k v n j (omega arith) (omega arith)))
+    subst (λ (i : ℕ). pairs_at (both-set L i k v) at (suc n) ≡ pairs_at L at (suc j) ++ (pair k v ∷ pairs_at L (i + 2) (suc n - (suc j + 1)))) (sym e) (rw (m, a, b) (ap (λ (x : List (Pair ℕ)). pair (get_or L at 0) (get_or L (at + 1) 0) ∷ x) (pairs_set L (at + 2) k v n j (omega arith) (omega arith))))
 
 module _ (same : ℕ → ℕ → Bool) where
   put_least_pick : (b : Bool) (q p : Pair ℕ) (ps rest : List (Pair ℕ)) → length ps ≤ length rest → suc (length ps) ≤ length (pick b (q ∷ ps) (p ∷ rest))

@@ -1,5 +1,5 @@
 -- What the pair writers need and leave.
-use Rattle.std.specs.Prelude.{ℕ, ◌+◌, ◌*◌, ◌≤◌, ◌<◌, ◌≡◌, Bool, true, false, List, [], ◌∷◌, ◌++◌, length, take}
+use Rattle.std.specs.Prelude.{ℕ, ◌+◌, ◌*◌, ◌≤◌, ◌≡◌, true, false, List, length, take}
 use Rattle.layout.specs.Layout.{most_links}
 use Rattle.schema.specs.Shape.{Pair}
 use Rattle.merge.specs.Pairs.{pairs_at}

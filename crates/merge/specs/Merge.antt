@@ -1,5 +1,5 @@
 -- Merging: what an object gets from its bases, over what stands for a child.
-use Rattle.std.specs.Prelude.{ℕ, Bool, true, false, ◌||◌, List, [], ◌∷◌, ◌++◌, eqb}
+use Rattle.std.specs.Prelude.{ℕ, Bool, false, ◌||◌, List, [], ◌∷◌, ◌++◌, eqb}
 use Rattle.std.proofs.Math.Option.{Option, some, none}
 use Rattle.schema.specs.Shape.{Note, Pair, Names, nameless, detects, named, Object}
 use Rattle.text.specs.Choice.{pick}

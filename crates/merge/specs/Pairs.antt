@@ -1,5 +1,5 @@
 -- Lists of key and value as they stand in the links. Assumes nothing.
-use Rattle.std.specs.Prelude.{ℕ, zero, suc, ◌+◌, ◌*◌, Bool, List, [], ◌∷◌, get_or}
+use Rattle.std.specs.Prelude.{ℕ, zero, suc, ◌+◌, Bool, List, [], ◌∷◌, get_or}
 use Rattle.layout.specs.Layout.{schema_word}
 use Rattle.schema.specs.Shape.{Pair}
 use Rattle.merge.specs.Merge.{put_all}
