@@ -7,16 +7,16 @@ use native.Mathlib.Omega.{arith}
 use native.Mathlib.Numerals.{add-one}
 use lib.ListN.{length, get_or, take, set, length-set, length-append}
 use lib.Seq.{take-set-le, take-suc-set, length-take-le, take-length}
-use lib.Dec.{eqb, ltb}
+use lib.Dec.{eqb}
 use borrow.Author.Tests.{eq-eqb, ne_eqb, lt-ltb, le-ltb}
-use Rattle.text.specs.Choice.{pick, both, either, clash}
+use Rattle.text.specs.Choice.{pick, clash}
 use Rattle.layout.specs.Layout.{NONE, most_links, note_word, schema_word, schema_kind, schema_note, additional_properties, property_names, required_first, required_count, object_closed}
 use Rattle.append.specs.Append.{room}
 use Rattle.append.proofs.Laws.{room-yes, room_full, room_short, room_limit, room_lent}
 use Rattle.schema.specs.Look.{slice}
 use Rattle.schema.proofs.Slices.{slice_begin, slice_more, slice-end}
 use Rattle.merge.specs.declared.Put.{Put}
-use Rattle.merge.specs.Meets.{Placed, Room, Joins}
+use Rattle.merge.specs.Meets.{Placed, Joins}
 use Rattle.merge.specs.Merge.{put_all}
 use Rattle.merge.specs.Pairs.{span, flat_pairs, pairs_at, merge_all, record_pairs}
 use Rattle.merge.proofs.Lists.{part_same}
