@@ -67,7 +67,7 @@ module _ (R : Room) (eq : ℕ → ℕ → Bool) (find : ℕ → Option ℕ) wher
   unfoldable pub add_links : List ℕ → Words → Result ℕ
   add_links x t = pick (leb (length t.links + length x) R.links) (ok (length t.links) (with_links t x)) (refuse 33)
 
-  -- an any_of or an all_of: links, then the record, with its own note
+  -- an anyOf or an allOf: links, then the record, with its own note
   unfoldable pub add_list : ℕ → ℕ → List ℕ → Words → Result ℕ
   add_list kind note xs t = then (add_links xs t) (λ at t. add_row (list_row kind note at (length xs)) t)
 
@@ -82,7 +82,7 @@ module _ (R : Room) (eq : ℕ → ℕ → Bool) (find : ℕ → Option ℕ) wher
       then (add_links (flat_pairs qs) t) (λ on t.
       add_row (object_row (schema_note t.schemas s) at (length ps) on (length qs) additional (required_first t.schemas s) (required_count t.schemas s) (object_minimum t.schemas s) (object_maximum t.schemas s) (object_closed t.schemas s) names (naming_convention t.schemas s)) t))
 
-  -- "none, the one, or a new all_of of all": its links
+  -- "none, the one, or a new allOf of all": its links
   abbrev pub join_links : Option (List ℕ) → Words → Result ℕ
   join_links none t = ok 0 t
   join_links (some []) t = ok 0 t
@@ -96,7 +96,7 @@ module _ (R : Room) (eq : ℕ → ℕ → Bool) (find : ℕ → Option ℕ) wher
   join_row kind at (some (x ∷ [])) t = ok x t
   join_row kind at (some (x ∷ (y ∷ ys))) t = add_row (list_row kind NONE at (length (x ∷ (y ∷ ys)))) t
 
-  -- a merged object: note; links of properties, patterns, required, additional, names; records all_of, any_of, object
+  -- a merged object: note; links of properties, patterns, required, additional, names; records allOf, anyOf, object
   unfoldable pub add_merged : Note → Option (List ℕ) → Object ℕ → Words → Result ℕ
   add_merged note names o t =
       then (add_note (note_words_of note) t) (λ ν t.
@@ -136,7 +136,7 @@ module _ (R : Room) (eq : ℕ → ℕ → Bool) (find : ℕ → Option ℕ) wher
   eagerly go none t = refuse 32
   eagerly go (some x) t = go x t
 
-  -- kinds 0 to 6 and lazy refs answer their own number; any_of, all_of, array and objects always append
+  -- kinds 0 to 6 and lazy refs answer their own number; anyOf, allOf, array and objects always append
   unfoldable pub compile_shape : (ℕ → Words → Result ℕ) → ℕ → Words → Shape ℕ → Option (List ℕ) → Result ℕ
   compile_shape go s t (plain w) b = ok s t
   compile_shape go s t (any_of note xs) b = then (each go xs t) (λ ys t. add_list 7 (schema_note t.schemas s) ys t)

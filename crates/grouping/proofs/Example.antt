@@ -108,7 +108,7 @@ pub left : Result ℕ → Words
 left (ok r t) = t
 left (refuse n) = record { notes = []; schemas = []; links = [] }
 
--- flat: three copies, an all_of, the object
+-- flat: three copies, an allOf, the object
 pub flat : compiling T room 7 ≡ ok 15 (left (compiling T room 7))
 unfolding compiling T plainly string thing eager_ref list_of_it room left compile_at compile_shape look raw bases slice sort_shape sort_names words.object_of pairs_from note_at detecting words.own_of own_words pair_key pair_value same_text same_bytes text_of text_word text_start text_length text_count fits_in part_of each each_pair optionally add_object add_links add_row add_note add_merged note_count schema_count flat_pairs objects_of looks gather put_all put later with_tags schema_word
 flat = refl
@@ -182,7 +182,7 @@ told (refused e) = e.number ∷ e.node ∷ e.kinds
 told (invalid p) = []
 told (ended n) = n ∷ []
 
--- flat: object, all_of, boolean; nested: object, all_of, all_of, boolean
+-- flat: object, allOf, boolean; nested: object, allOf, allOf, boolean
 flat_answer : told (visit_of (grown T (left (compiling T room 7))) mode.Source levels 2 15) ≡ 1 ∷ 1 ∷ 10 ∷ 8 ∷ 1 ∷ []
 unfolding told visit_of visit_at visit_body object_at required_over entries_over find_pair all_over compiling T plainly string thing eager_ref list_of_it room left compile_at compile_shape look raw bases slice sort_shape sort_names words.object_of words.own_of own_words pairs_from note_at detecting pair_key pair_value same_text same_bytes text_of text_word text_start text_length text_count fits_in part_of each each_pair optionally add_object add_links add_row add_note add_merged note_count schema_count flat_pairs objects_of looks gather put_all put later with_tags schema_word note_word judge_of boolean_verdict mismatch object_verdict keys_verdict is_duplicate has_earlier first_from entry_key entry_value entries_from entry_of node_word size_verdict count_verdict is_short is_long
 flat_answer = refl

@@ -1,4 +1,4 @@
--- A visit of a table finds what a visit of the table with its additionals opened finds, but for all_of steps. Assumes nothing.
+-- A visit of a table finds what a visit of the table with its additionals opened finds, but for allOf steps. Assumes nothing.
 use Prim.Native.Nat.{ℕ, zero, suc, ◌<◌, ◌≤◌}
 use mathlib.Core.Path.{◌≡◌, refl, ap, ap₂, subst}
 use mathlib.Core.List.{List, [], ◌∷◌, ◌++◌}
@@ -33,7 +33,7 @@ any_says Unanswered = says_unanswered
 pub any_quiet : (D : Nodes) → Quiet Any D
 any_quiet D = record { judge = λ w n. any_says (D.judge w n); counted = λ a b n. any_says (D.counted a b n); object_first = λ n. any_says (D.object_first n) }
 
--- an error without the all_of steps of its schema path
+-- an error without the allOf steps of its schema path
 abbrev pub stepless : Error → Error
 stepless e = record { number = e.number; node = e.node; schema = e.schema; hint = e.hint; detail = e.detail; steps = e.steps; kinds = without_all e.kinds }
 

@@ -1,4 +1,4 @@
--- The parts of a record in additional, as records: an all_of without note is replaced by its parts, again and again. And a record whose
+-- The parts of a record in additional, as records: an allOf without note is replaced by its parts, again and again. And a record whose
 -- additional is opened so. Assumes nothing.
 use Prim.Native.Nat.{ℕ, zero, suc, ◌<◌, ◌≤◌}
 use mathlib.Core.Path.{◌≡◌, refl, ap, ap₂, ◌∙◌}

@@ -95,7 +95,7 @@ module _ {K : Type 0} {silent : Detail → Type 0} (E : Erasure K silent) where
   below_any_step invalids m r = r _ _ m
   below_any_step ends m r = ends
 
--- additional: part by part, and an all_of may be opened where an all_of step does not count
+-- additional: part by part, and an allOf may be opened where an allOf step does not count
 pub data Opens {K : Type 0} {silent : Detail → Type 0} (E : Erasure K silent) {S U : Type 0} (R : S → U → Type 0) (look : S → Shape S) : List S → List U → Type 0 where
   shut : Opens E R look [] []
   keep : {s : S} {u : U} {ss : List S} {us : List U} → R s u → Opens E R look ss us → Opens E R look (s ∷ ss) (u ∷ us)
@@ -162,7 +162,7 @@ module _ {K : Type 0} {silent : Detail → Type 0} (D : Nodes) (quiet : Quiet si
       Below E (any_over f p xs) (any_over g q ys)
   unfolding any_over
   over_any f g h stop m = below_end E m
-  over_any f g h (also r rs) m = below_any_step E (h _ _ r) m (λ p q m. over_any f g h rs m)
+  over_any f g h {p = p'} {q = q'} (also {s = s} {u = u} {ss = ss} {us = us} r rs) m = below_any_step E (h _ _ r) m (λ p q n. over_any f g h {p = p} {q = q} {xs = ss} {ys = us} rs n)
 
   over_items : (f g : ℕ → Outcome) → ((n : ℕ) → Below E (f n) (g n)) → (i : ℕ) (ns : List ℕ) → Below E (items_over f i ns) (items_over g i ns)
   unfolding items_over

@@ -305,7 +305,7 @@ module _ {N : Type 0} (B : Trees N) (look look' : ℕ → Shape ℕ) (n n' : ℕ
     twins_opened : (D : Nodes) → Quiet Schemaless D → (m k s u : ℕ) → Twins s u → Below treewise (visit_at D self (opened look) find m k s) (visit_at D self (opened look') find' m k u)
     twins_opened D quiet m k s u r = simulation D quiet treewise Twins self self (opened look) (opened look') find find' simulates m m (omega arith) k s u r
 
-    -- what is kept of an error does not count its all_of steps
+    -- what is kept of an error does not count its allOf steps
     counted : (f : ℕ → N) → Error → Refusal N
     counted f e = record { number = e.number; node = e.node; schema = f e.schema; hint = e.hint; detail = told_by f e.detail; steps = e.steps; kinds = e.kinds }
 

@@ -1,4 +1,4 @@
--- Document 01, "Opened": records as trees, where in additional an all_of, in names an any_of, without note, is replaced by its parts, again and
+-- Document 01, "Opened": records as trees, where in additional an allOf, in names an anyOf, without note, is replaced by its parts, again and
 -- again. `N` is any type of trees; `Grown` has one. Assumes nothing.
 use Rattle.std.specs.Prelude.{ℕ, zero, suc, ◌<◌, ◌≡◌, Bool, false, List, [], ◌∷◌, ◌++◌}
 use Rattle.std.proofs.Math.Option.{Option, some, none}
@@ -66,7 +66,7 @@ module _ {N : Type 0} (B : Trees N) where
   read_shape go (object o) = object (read_object go o)
   read_shape go (ref note t eager) = ref note t eager
 
-  -- "in additional an all_of without note is replaced by its parts, again and again"
+  -- "in additional an allOf without note is replaced by its parts, again and again"
   unfoldable pub open_all : {A : Type 0} → (A → View N) → Shape A → List N
   open_all go (plain w) = B.build (plain w) ∷ []
   open_all go (any_of note xs) = B.build (read_shape go (any_of note xs)) ∷ []
@@ -76,7 +76,7 @@ module _ {N : Type 0} (B : Trees N) where
   open_all go (object o) = B.build (read_shape go (object o)) ∷ []
   open_all go (ref note t eager) = B.build (ref note t eager) ∷ []
 
-  -- "in names an any_of"
+  -- "in names an anyOf"
   unfoldable pub open_any : {A : Type 0} → (A → View N) → Shape A → List N
   open_any go (plain w) = B.build (plain w) ∷ []
   open_any go (all_of note xs) = B.build (read_shape go (all_of note xs)) ∷ []

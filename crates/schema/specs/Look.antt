@@ -53,7 +53,7 @@ module _ (t : Words) (s : ℕ) where
   abbrev pub note_of_schema : Option Note
   note_of_schema = note_at t.notes (schema_note t.schemas s)
 
-  -- the list of an enum, an any_of or an all_of
+  -- the list of an enum, an anyOf or an allOf
   abbrev pub list_of : List ℕ
   list_of = slice t.links (list_first t.schemas s) (list_count t.schemas s)
 

@@ -26,7 +26,7 @@ pub record Own : Type 0 where
   pub note : Option Note
   pub words : List ℕ
 
--- names: absent, a string schema with case-detection, or others, joined by any_of once merged
+-- names: absent, a string schema with case-detection, or others, joined by anyOf once merged
 pub data Names (A : Type 0) : Type 0 where
   nameless : Names A
   detects : A → Names A

@@ -32,14 +32,14 @@ find_pair eq k (p ∷ ps) =
     let rest = find_pair eq k ps in
     pick (eq p.key k) (some p.value) rest
 
--- all_of: first refusal
+-- allOf: first refusal
 unfoldable pub all_over : {A : Type 0} → (A → Outcome) → List A → Outcome
 all_over go [] = accepted
 all_over go (x ∷ xs) =
     let rest = all_over go xs in
     and_then (go x) rest
 
--- any_of: first acceptance accepts; otherwise the first error any alternative left
+-- anyOf: first acceptance accepts; otherwise the first error any alternative left
 unfoldable pub any_over : {A : Type 0} → (A → Outcome) → Option Error → List A → Outcome
 any_over go best [] = any_end best
 any_over go best (x ∷ xs) = any_step (go x) best (λ b. any_over go b xs)
