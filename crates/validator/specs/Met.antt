@@ -154,12 +154,12 @@ module _ (T : Tables) (mode : Mode) where
     -- a visit without its own schema step; a ref has none
     abbrev pub within : Shape ℕ → Outcome
     within (plain w) = verdict (nodes_in.judge w n) s w.note
-    within (any_of note xs) = any_over (visit_of T mode below n) none xs
-    within (all_of note xs) = all_over (visit_of T mode below n) xs
+    within (any_of _ xs) = any_over (visit_of T mode below n) none xs
+    within (all_of _ xs) = all_over (visit_of T mode below n) xs
     within (array w x) =
         and_then (verdict (nodes_in.judge w n) s w.note) (array_at nodes_in (λ m. m) (visit_of T mode below) x n)
     within (object o) = object_at nodes_in (λ m. m) (visit_of T mode below) s o n
-    within (ref note t eager) = accepted
+    within (ref _ t eager) = accepted
 
     unfoldable pub inner_in : Outcome
     inner_in = within (look (words_of T) s)

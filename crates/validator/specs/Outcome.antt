@@ -103,7 +103,7 @@ any_step (invalid p) best rest = rest best
 any_step (ended n) best rest = ended n
 
 abbrev pub verdict : Verdict → ℕ → Option Note → Outcome
-verdict Fine schema note = accepted
+verdict Fine schema _ = accepted
 verdict (Wrong number node detail) schema note = refused (made number node schema note detail)
-verdict BadPattern schema note = invalid []
-verdict Unanswered schema note = ended 24
+verdict BadPattern schema _ = invalid []
+verdict Unanswered schema _ = ended 24

@@ -101,13 +101,13 @@ module _ {S : Type 0} (D : Nodes) (who : S → ℕ) where
   -- ref: the registry's schema, or 12
   abbrev pub ref_at : (ℕ → S → Outcome) → S → Option Note → ℕ → ℕ → Option S → Outcome
   ref_at go s note t n none = refused (made 12 n (who s) note (Reference t))
-  ref_at go s note t n (some x) = go n x
+  ref_at go s _ t n (some x) = go n x
 
   -- kinds 1 to 5 add one schema step; True and any accept, so that theirs is never seen
   unfoldable pub visit_body : (ℕ → Option S) → (ℕ → S → Outcome) → ℕ → S → Shape S → Outcome
   visit_body find go n s (plain w) = under w.kind (verdict (D.judge w n) (who s) w.note)
-  visit_body find go n s (any_of note xs) = under 7 (any_over (go n) none xs)
-  visit_body find go n s (all_of note xs) = under 8 (all_over (go n) xs)
+  visit_body find go n s (any_of _ xs) = under 7 (any_over (go n) none xs)
+  visit_body find go n s (all_of _ xs) = under 8 (all_over (go n) xs)
   visit_body find go n s (array w x) = under 9 (and_then (verdict (D.judge w n) (who s) w.note) (array_at go x n))
   visit_body find go n s (object o) = under 10 (object_at go s o n)
   visit_body find go n s (ref note t eager) = ref_at go s note t n (find t)
