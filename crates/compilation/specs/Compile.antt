@@ -35,12 +35,12 @@ with_links t x = record { notes = t.notes; schemas = t.schemas; links = t.links 
 
 abbrev pub objects_cons : {A : Type 0} → Shape A → Option (List (Object A)) → Option (List (Object A))
 objects_cons (plain w) r = none
-objects_cons (any_of note xs) r = none
-objects_cons (all_of note xs) r = none
+objects_cons (any_of _ xs) r = none
+objects_cons (all_of _ xs) r = none
 objects_cons (array w x) r = none
 objects_cons (object o) none = none
 objects_cons (object o) (some os) = some (o ∷ os)
-objects_cons (ref note t b) r = none
+objects_cons (ref _ t b) r = none
 
 -- all of them, or none where one is no object
 unfoldable pub objects_of : {A : Type 0} → List (Shape A) → Option (List (Object A))
@@ -139,8 +139,8 @@ module _ (R : Room) (eq : ℕ → ℕ → Bool) (find : ℕ → Option ℕ) wher
   -- kinds 0 to 6 and lazy refs answer their own number; anyOf, allOf, array and objects always append
   unfoldable pub compile_shape : (ℕ → Words → Result ℕ) → ℕ → Words → Shape ℕ → Option (List ℕ) → Result ℕ
   compile_shape go s t (plain w) b = ok s t
-  compile_shape go s t (any_of note xs) b = then (each go xs t) (λ ys t. add_list 7 (schema_note t.schemas s) ys t)
-  compile_shape go s t (all_of note xs) b = then (each go xs t) (λ ys t. add_list 8 (schema_note t.schemas s) ys t)
+  compile_shape go s t (any_of _ xs) b = then (each go xs t) (λ ys t. add_list 7 (schema_note t.schemas s) ys t)
+  compile_shape go s t (all_of _ xs) b = then (each go xs t) (λ ys t. add_list 8 (schema_note t.schemas s) ys t)
   compile_shape go s t (array w x) b = then (optionally go (array_items t.schemas s) t) (λ y t. add_array s y t)
   compile_shape go s t (object o) none =
       then (each_pair go o.props t) (λ ps t.
@@ -149,8 +149,8 @@ module _ (R : Room) (eq : ℕ → ℕ → Bool) (find : ℕ → Option ℕ) wher
       then (optionally go (property_names t.schemas s) t) (λ n t.
       add_object s ps qs a n t))))
   compile_shape go s t (object o) (some bs) = then (each go bs t) (λ rs t. merge_from (objects_of (looks t rs)) o t)
-  compile_shape go s t (ref note name false) b = ok s t
-  compile_shape go s t (ref note name true) b = eagerly go (find name) t
+  compile_shape go s t (ref _ name false) b = ok s t
+  compile_shape go s t (ref _ name true) b = eagerly go (find name) t
 
   -- each compile visit is a level
   unfoldable pub compile_at : ℕ → ℕ → Words → Result ℕ

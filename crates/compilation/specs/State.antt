@@ -1,5 +1,5 @@
 -- What compiling works on: the source, which never changes, and the state, which only grows.
-use Rattle.std.specs.Prelude.{ℕ, ◌+◌, ◌*◌, List, [], ◌∷◌, ◌++◌, length, take}
+use Rattle.std.specs.Prelude.{ℕ, ◌+◌, ◌*◌, List, ◌++◌, length, take}
 use Rattle.text.specs.Choice.{pick}
 use Rattle.layout.specs.Layout.{note_words, schema_words, most_notes, most_schemas, most_links}
 use Rattle.append.specs.Append.{room}
