@@ -56,8 +56,7 @@ fn ready(checker: Option<Box<dyn Checker>>) -> Result<Box<dyn Checker>, Box<Fail
         Box::new(Failure {
             name: "wheelcheck".to_string(),
             source: None,
-            trouble: Trouble::of_file(message)
-                .hint("'host/archive --anew' makes the library anew"),
+            trouble: Trouble::of_file(message).hint("'host/archive --anew' makes the library anew"),
         })
     };
     let checker = checker.ok_or_else(|| wrong("the proved library is missing".to_string()))?;
