@@ -61,6 +61,7 @@ module _ (R : Room) (eq : ℕ → ℕ → Bool) (find : ℕ → Option ℕ) (roo
     rest : f at words ≡ ok b t'
 
   join_links_lem : {B : Type 0} (x : Option (List ℕ)) (t : Words) (f : ℕ → Words → Result B) (b : B) (t' : Words) → Sound t → Filled x → then (join_links R eq find x t) f ≡ ok b t' → LinkStep x t f b t'
+  join_links_lem {B = B} (some []) t f b t' z x6 e = elim x6 [ ]
   join_links_lem none t f b t' z no_list e = record { at = 0; words = t; grown = extends_self t; sound = z; linked = l_none; rest = e }
   join_links_lem (some (x ∷ [])) t f b t' z a_list e = record { at = 0; words = t; grown = extends_self t; sound = z; linked = l_one; rest = e }
   join_links_lem (some (x ∷ (y ∷ ys))) t f b t' z a_list e =
@@ -87,6 +88,7 @@ module _ (R : Room) (eq : ℕ → ℕ → Bool) (find : ℕ → Option ℕ) (roo
 
   join_all : {B : Type 0} (x : Option (List ℕ)) (at : ℕ) (t : Words) (f : ℕ → Words → Result B) (b : B) (t' : Words) → Sound t → Filled x → Linked t at x → PerhapsEvery (λ y. y < count t) x →
       then (join_row R eq find 8 at x t) f ≡ ok b t' → RowStep (all_of none) x t f b t'
+  join_all {B = B} (some []) at t f b t' z x9 _ q e = elim x9 [ ]
   join_all none at t f b t' z no_list l_none q e = record { word = NONE; words = t; grown = extends_self t; sound = z; joined = j_none; rest = e }
   join_all (some (x ∷ [])) at t f b t' z a_list l_one (presents (one p q)) e = record { word = x; words = t; grown = extends_self t; sound = z; joined = j_one p; rest = e }
   join_all (some (x ∷ (y ∷ ys))) at t f b t' z a_list (l_many h) (presents q) e =
@@ -96,6 +98,7 @@ module _ (R : Room) (eq : ℕ → ℕ → Bool) (find : ℕ → Option ℕ) (roo
 
   join_any : {B : Type 0} (x : Option (List ℕ)) (at : ℕ) (t : Words) (f : ℕ → Words → Result B) (b : B) (t' : Words) → Sound t → Filled x → Linked t at x → PerhapsEvery (λ y. y < count t) x →
       then (join_row R eq find 7 at x t) f ≡ ok b t' → RowStep (any_of none) x t f b t'
+  join_any {B = B} (some []) at t f b t' z x9 _ q e = elim x9 [ ]
   join_any none at t f b t' z no_list l_none q e = record { word = NONE; words = t; grown = extends_self t; sound = z; joined = j_none; rest = e }
   join_any (some (x ∷ [])) at t f b t' z a_list l_one (presents (one p q)) e = record { word = x; words = t; grown = extends_self t; sound = z; joined = j_one p; rest = e }
   join_any (some (x ∷ (y ∷ ys))) at t f b t' z a_list (l_many h) (presents q) e =

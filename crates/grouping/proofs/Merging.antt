@@ -101,6 +101,7 @@ module _ {A : Type 0} (eq : ℕ → ℕ → Bool) (K : Keys eq) where
 
   -- a pair whose key is there changes places with one of another key
   put_over : (p r : Pair A) (l : List (Pair A)) → Has p.key l → eq r.key p.key ≡ false → put eq p (put eq r l) ≡ put eq r (put eq p l)
+  put_over p r [] x'' n = elim x'' [ ]
   put_over p r (q ∷ qs) (first h) n =
       let m : eq q.key r.key ≡ false = K.swap q.key p.key r.key h ∙ (K.turn p.key r.key ∙ n) in
       let w : eq p.key r.key ≡ false = K.turn p.key r.key ∙ n in
@@ -119,6 +120,7 @@ module _ {A : Type 0} (eq : ℕ → ℕ → Bool) (K : Keys eq) where
 
   has_put : (k : ℕ) (r : Pair A) (l : List (Pair A)) → Has k l → Has k (put eq r l)
   unfolding put
+  has_put k r [] x' = elim x' [ ]
   has_put k r (q ∷ qs) (first h) = go (eq q.key r.key) refl
     where
       go : (b : Bool) → eq q.key r.key ≡ b → Has k (pick b (r ∷ qs) (q ∷ put eq r qs))
@@ -140,6 +142,7 @@ module _ {A : Type 0} (eq : ℕ → ℕ → Bool) (K : Keys eq) where
   lacks_as a b (p ∷ ps) e (other n r) = other (sym (same_test K p.key a b e) ∙ n) (lacks_as a b ps e r)
 
   has_as : (a b : ℕ) (l : List (Pair A)) → eq a b ≡ true → Has a l → Has b l
+  has_as a b [] e x'' = elim x'' [ ]
   has_as a b (p ∷ ps) e (first h) = first (sym (same_test K p.key a b e) ∙ h)
   has_as a b (p ∷ ps) e (after h) = after (has_as a b ps e h)
 

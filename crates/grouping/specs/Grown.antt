@@ -135,7 +135,7 @@ see-grow (any_of note xs) = ap (λ (y : List Tree). any_of note y) (list_forest 
 see-grow (all_of note xs) = ap (λ (y : List Tree). all_of note y) (list_forest xs)
 see-grow (array w x) = ap (λ (y : Option Tree). array w y) (twig-back x)
 see-grow (object o) = λ i. object (record { note = o.note; props = pairs-boughs o.props i; patterns = pairs-boughs o.patterns i; additional = parts-back o.additional i; required = o.required; least = o.least; most = o.most; closed = o.closed; names = naming-back o.names i; naming = o.naming })
-see-grow (ref note t b) = refl
+see-grow (ref _ t b) = refl
 
 unfoldable pub trees : Trees Tree
 trees = record { build = grow; look = see; back = see-grow }

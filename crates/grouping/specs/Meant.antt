@@ -81,8 +81,8 @@ module _ {N : Type 0} (B : Trees N) where
         bind (option_m go (one_name o.names)) (λ n.
         some (view_body B self_view (object (object_from o ps qs a n)))))))
     meant_shape go s (object o) (some bs) = bind (each_m go bs) (λ vs. merge_m eq (objects_of (map_list shape_of_view vs)) (read_object B stands o))
-    meant_shape go s (ref note name false) b = some (stands s)
-    meant_shape go s (ref note name true) b = eagerly_m go (find name)
+    meant_shape go s (ref _ name false) b = some (stands s)
+    meant_shape go s (ref _ name true) b = eagerly_m go (find name)
 
     unfoldable pub meant_of : (S → Shape S) → (S → Option (List S)) → ℕ → S → Option (View N)
     meant_of see based zero s = none

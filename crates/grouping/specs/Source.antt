@@ -84,11 +84,11 @@ see (s_ref note t b) = ref note t b
 
 unfoldable pub based : Source → Option (List Source)
 based (s_plain w) = none
-based (s_any note xs) = none
-based (s_all note xs) = none
+based (s_any _ xs) = none
+based (s_all _ xs) = none
 based (s_array w x) = none
 based (s_object f p q a n b) = joined_in b
-based (s_ref note t b) = none
+based (s_ref _ t b) = none
 
 -- ---- the tree that a source stands for as it stands: its bases left out
 unfoldable mutual
