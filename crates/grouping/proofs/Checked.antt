@@ -11,7 +11,7 @@ use borrow.Author.Tests.{eqb-true, eqb-false}
 use Rattle.text.specs.Choice.{pick}
 use Rattle.layout.specs.Layout.{NONE}
 use Rattle.schema.specs.Shape.{Note, Own, nameless, named, plain, any_of, all_of, array, object, ref}
-use Rattle.schema.specs.Look.{Words, slice, optional, bases}
+use Rattle.schema.specs.Look.{Words, slice, optional}
 use Rattle.merge.specs.Pairs.{pairs_at}
 use Rattle.grouping.specs.Record.{row_at, note_of_row, note_in, own_of, array_of, object_of, shape_of, bases_of, count}
 use Rattle.grouping.proofs.Rowed.{note_row_lem, raw_row, bases_row}

@@ -1,20 +1,19 @@
 -- Raising the level count changes no answer other than 23. Assumes nothing.
-use Prim.Native.Nat.{ℕ, zero, suc, ◌≤◌}
+use Prim.Native.Nat.{ℕ, ◌≤◌}
 use mathlib.Core.Path.{◌≡◌, refl, ap, subst}
-use mathlib.Core.Bool.{Bool, true, false}
 use mathlib.Core.List.{List, [], ◌∷◌}
 use mathlib.Core.Option.{Option, some, none}
 use Rattle.error.specs.declared.Mode.{Mode}
 use Rattle.layout.specs.Layout.{Tables}
 use Rattle.lookup.specs.Lookup.{answer_of_pattern, find_in}
-use Rattle.schema.specs.Shape.{Pair, Object, Shape, plain, any_of, all_of, array, object, ref}
+use Rattle.schema.specs.Shape.{Pair, Shape, plain, any_of, all_of, array, object, ref}
 use Rattle.schema.specs.Look.{words_of, look}
 use Rattle.validator.specs.Outcome.{Error, Outcome, refused, ended, made, kinded, placed}
 use Rattle.validator.specs.Visit.{Nodes, visit_at}
 use Rattle.validator.specs.Nodes.{nodes_of}
 use Rattle.validator.specs.Validate.{visit_of}
 use Rattle.grouping.specs.Regrouped.{Each, stop, also, Maybe, neither, both, Pairs, end_pairs, pair}
-use Rattle.grouping.proofs.Simulation.{Erasure, Below, deep, accepts, refuses, invalids, ends, Opens, shut, keep, Extra, no_extra, extra, ObjectAlike, Alike, plains, anys, alls, arrays, objects, refs, Simulates, simulation}
+use Rattle.grouping.proofs.Simulation.{Erasure, Below, deep, accepts, refuses, invalids, ends, Opens, shut, keep, Extra, no_extra, extra, Alike, plains, anys, alls, arrays, objects, refs, Simulates, simulation}
 use Rattle.grouping.proofs.Opened.{Any, any_quiet, self, lacking}
 
 exactly : Erasure Error Any

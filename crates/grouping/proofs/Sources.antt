@@ -1,6 +1,6 @@
 -- Compile's result stands for the tree that compiling the tree gives. Assumes nothing.
 use Prim.Native.Nat.{ℕ, zero, suc, ◌≤◌, ◌<◌}
-use mathlib.Core.Path.{◌≡◌, refl, sym, ap, ap₂, subst, ◌∙◌}
+use mathlib.Core.Path.{◌≡◌, refl, sym, ap, ap₂, ◌∙◌}
 use mathlib.Core.Bool.{Bool, true, false}
 use mathlib.Core.List.{List, [], ◌∷◌, ◌++◌}
 use mathlib.Core.Option.{Option, some, none}
@@ -11,20 +11,20 @@ use Rattle.layout.specs.Layout.{Tables, schema_count}
 use Rattle.lookup.specs.Lookup.{find_in}
 use Rattle.tables.specs.declared.check.Fault.TheVariants.{Sound}
 use Rattle.tables.specs.Check.{tables_fault}
-use Rattle.schema.specs.Shape.{Note, Pair, Own, Names, nameless, detects, named, Object, Shape, plain, any_of, all_of, array, object, ref}
+use Rattle.schema.specs.Shape.{Pair, Names, nameless, detects, named, Object, Shape, plain, any_of, all_of, array, object, ref}
 use Rattle.schema.specs.Look.{Words, words_of, look, bases}
-use Rattle.compilation.specs.Compile.{ok, Room, objects_of, compile_at}
+use Rattle.compilation.specs.Compile.{ok, Room, objects_of}
 use Rattle.grouping.specs.Record.{count}
 use Rattle.grouping.specs.Tree.{Trees, View, map_list, flat_list, map_option, map_pair, map_names, whole, read_object, read_shape, open_all, open_any, view_body, view, Every, nil, one, EveryPair, nil_pair, one_pair, Perhaps, absent, present, PerhapsEvery, absents, presents, NamesIn, in_none, in_detects, in_named, ObjectIn, Children, in_plain, in_any, in_all, in_array, in_object, in_ref}
-use Rattle.grouping.specs.Grown.{Facts, Tree, trees}
-use Rattle.grouping.specs.Meant.{bind, each_m, each_pair_m, option_m, one_part, one_name, self_view, shape_of_view, object_from, merge_m, eagerly_m, meant_shape, meant_of, meant_at}
-use Rattle.grouping.specs.Source.{Source, s_ref, Sources, Fields, Item, Joined, Named, listed, paired, item_in, joined_in, named_in, see, based, stands, standing, stands_fields, stands_item, stands_joined, stands_named, sources, fields, to_item, to_joined, to_named, sow, map_named, map_whole, map_shape, source_at, source_of, compile_tree}
+use Rattle.grouping.specs.Grown.{Tree, trees}
+use Rattle.grouping.specs.Meant.{bind, each_m, each_pair_m, option_m, one_part, one_name, self_view, shape_of_view, merge_m, eagerly_m, meant_shape, meant_of, meant_at}
+use Rattle.grouping.specs.Source.{Source, listed, paired, item_in, joined_in, named_in, see, based, stands, standing, stands_fields, stands_item, stands_joined, stands_named, sources, fields, to_item, to_joined, to_named, sow, map_named, map_whole, map_shape, source_at, source_of, compile_tree}
 use Rattle.grouping.specs.Values.{grown}
 use Rattle.grouping.specs.Demand.{opened, Limited, compiling}
 use Rattle.grouping.proofs.Reading.{object_same, view_same, view_is}
 use Rattle.grouping.proofs.Growing.{Sound as Steady, extends_self, limit, limit_notes}
 use Rattle.grouping.proofs.Frame.{ordered}
-use Rattle.grouping.proofs.Compiled.{Done, compiled}
+use Rattle.grouping.proofs.Compiled.{compiled}
 use Rattle.grouping.proofs.WellFormed.{checked, names_known}
 
 -- ---- what was sown is seen

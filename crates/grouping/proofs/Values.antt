@@ -22,7 +22,7 @@ use Rattle.json_equality.specs.declared.shape.Shape.TheVariants as variants
 use Rattle.json_equality.specs.Json.{Json, Items, item, equal_json}
 use Rattle.json_equality.specs.Json as json
 use Rattle.json_equality.specs.Value.{real_shape, parsed_shape, shape_by, shape_of, items_from, keyed, fields_from, json_of, value_at, value_of, equal_nodes_of}
-use Rattle.schema.specs.Shape.{Own, Shape, array, object}
+use Rattle.schema.specs.Shape.{Own}
 use Rattle.schema.specs.Look.{slice}
 use Rattle.judge.specs.declared.Verdict.{Verdict}
 use Rattle.judge.specs.declared.Verdict.TheVariants.{Fine, Wrong}

@@ -1,11 +1,8 @@
 -- A schema before it is compiled, as a tree: what its record says, children and bases in place. And compiling it. Assumes nothing.
-use Rattle.std.specs.Prelude.{ℕ, zero, suc, ◌≡◌, refl, Bool, false, List, [], ◌∷◌}
-use Rattle.std.proofs.Common.{ap}
+use Rattle.std.specs.Prelude.{ℕ, zero, suc, Bool, false, List, [], ◌∷◌}
 use Rattle.std.proofs.Math.Option.{Option, some, none}
-use Rattle.text.specs.Text.{same_text}
-use Rattle.layout.specs.Layout.{Tables}
 use Rattle.schema.specs.Shape.{Note, Pair, Own, Names, nameless, detects, named, Object, Shape, plain, any_of, all_of, array, object, ref}
-use Rattle.schema.specs.Look.{Words, words_of, look, bases}
+use Rattle.schema.specs.Look.{Words, look, bases}
 use Rattle.grouping.specs.Tree.{View, map_list, map_option, map_pair, whole, view_body}
 use Rattle.grouping.specs.Grown.{Facts, Tree, trees}
 use Rattle.grouping.specs.Meant.{self_view, meant_of}
