@@ -1,11 +1,10 @@
 -- Lists and pairs in the links, step by step: what the code has at hand, and what the definition says of it. Assumes nothing.
-use mathlib.Core.Path.{◌≡◌, refl, sym, ap, ◌∙◌}
-use mathlib.Core.Bool.{Bool, true, false, not}
+use mathlib.Core.Path.{◌≡◌, refl}
+use mathlib.Core.Bool.{true, false}
 use mathlib.Core.List.{List}
 use Prim.Native.Nat.{ℕ, ◌+◌, ◌*◌, ◌<◌, ◌≤◌}
 use borrow.Author.Tests.{lt-ltb, le-ltb, le-leb, lt-leb}
 use lib.ListN.{length, get_or}
-use Rattle.text.specs.Choice.{both_fails_left}
 use Rattle.text.specs.Text.{same_text}
 use Rattle.layout.specs.Layout.{pair_key}
 use Rattle.layout.specs.Walk.{every}

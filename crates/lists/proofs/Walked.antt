@@ -1,10 +1,10 @@
 -- What a walk that found nothing bad says of each place. Assumes nothing.
-use mathlib.Core.Path.{◌≡◌, refl, sym, ◌∙◌}
-use mathlib.Core.Bool.{Bool, true, false}
+use mathlib.Core.Path.{◌≡◌, refl, sym}
+use mathlib.Core.Bool.{Bool, true}
 use mathlib.Core.Logic.{⊎_elim}
 use Prim.Native.Nat.{ℕ, zero, suc, ◌+◌, ◌-◌, ◌<◌, ◌≤◌}
 use native.Mathlib.Omega.{arith}
-use Rattle.text.specs.Choice.{both_left, both_right, clash, true_or_false, le_or_lt}
+use Rattle.text.specs.Choice.{clash, true_or_false, le_or_lt}
 use Rattle.layout.specs.Walk.{every, first}
 use Rattle.layout.proofs.Walk.{every_more, every-stop, first_more, first_stop}
 

@@ -5,7 +5,6 @@ use mathlib.Core.List.{List}
 use Prim.Native.Nat.{ℕ}
 use borrow.Author.Tests.{eq-eqb, ne_eqb}
 use lib.Dec.{eqb, leb}
-use Rattle.text.specs.Choice.{both}
 use Rattle.text.specs.Text.{text_of, text_fits}
 use Rattle.text.specs.Utf8.{utf8_of}
 use Rattle.ascii.specs.Ascii.{ascii_of}

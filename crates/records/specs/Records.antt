@@ -1,6 +1,6 @@
 -- Document 01, "Tables": when a record of tables 1, 2, 3, 5 and 6 is good. Assumes nothing.
-use Rattle.std.specs.Prelude.{ℕ, ◌+◌, ◌*◌, List, Bool, true, false, length, get_or, leb, ltb, eqb}
-use Rattle.text.specs.Choice.{both, either, pick}
+use Rattle.std.specs.Prelude.{ℕ, ◌*◌, List, Bool, false, length, leb, ltb, eqb}
+use Rattle.text.specs.Choice.{both, pick}
 use Rattle.text.specs.Text.{text_of, text_fits, text_count}
 use Rattle.text.specs.Utf8.{utf8_of}
 use Rattle.records.specs.declared.Counts.{Counts}

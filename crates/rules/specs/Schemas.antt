@@ -1,5 +1,5 @@
 -- Document 01, "Tables": when a record of table 4 is good, kind by kind. Assumes nothing.
-use Rattle.std.specs.Prelude.{ℕ, ◌+◌, ◌*◌, List, Bool, true, false, leb, ltb, eqb}
+use Rattle.std.specs.Prelude.{ℕ, List, Bool, false, leb, ltb, eqb}
 use Rattle.text.specs.Choice.{both, either, pick}
 use Rattle.records.specs.declared.Counts.{Counts}
 use Rattle.layout.specs.Layout.{NONE, schema_words, schema_word, schema_kind, schema_note, number_minimum, number_maximum, number_exclusive_minimum, number_exclusive_maximum, number_multiple, string_pattern, list_first, list_count, array_items, array_unique, properties_first, properties_count, pattern_properties_first, pattern_properties_count, additional_properties, required_first, required_count, object_closed, property_names, bases_first, bases_count, ref_text, ref_eager}

@@ -1,10 +1,10 @@
 -- What the check establishes, for the layers above: `well_formed`, then every fact of a node, a schema, a registry entry, a pattern
 -- answer and a note by its name. Assumes nothing.
-use mathlib.Core.Path.{◌≡◌, sym, ap, ◌∙◌}
-use mathlib.Core.Bool.{Bool, true, false, not}
+use mathlib.Core.Path.{◌≡◌, sym, ◌∙◌}
+use mathlib.Core.Bool.{Bool, true, false}
 use mathlib.Core.List.{List}
 use mathlib.Core.Logic.{◌⊎◌, inl, inr, ⊎_elim}
-use Prim.Native.Nat.{ℕ, zero, suc, ◌+◌, ◌*◌, ◌-◌, ◌<◌, ◌≤◌}
+use Prim.Native.Nat.{ℕ, zero, suc, ◌+◌, ◌*◌, ◌<◌, ◌≤◌}
 use native.Mathlib.Omega.{arith}
 use borrow.Author.Tests.{ltb-true, ltb-false, leb-true, eqb-true, ne_eqb, not-true}
 use lib.ListN.{length, get_or}
@@ -17,10 +17,10 @@ use Rattle.layout.specs.Walk.{every, first}
 use Rattle.tables.specs.declared.check.Fault.TheVariants.{Sound}
 use Rattle.records.specs.declared.Counts.{Counts}
 use Rattle.lists.specs.Lists.{optional_below, link_below, list_below, pair_ok, keys_differ, key_is_new, keys_distinct, pairs_below, pairs_ok}
-use Rattle.records.specs.Records.{counts_in, counts_of, note_ok, plain_node_ok, boolean_node_ok, place_node_ok, real_node_ok, list_node_ok, node_rule, node_ok, entry_ok, pattern_ok}
-use Rattle.rules.specs.Schemas.{unused_from, schema_note_ok, true_ok, number_ok, string_ok, list_ok, array_ok, bases_ok, object_pairs_ok, object_words_ok, object_ok, ref_ok, schema_rule, schema_ok}
+use Rattle.records.specs.Records.{counts_in, counts_of, boolean_node_ok, place_node_ok, real_node_ok, list_node_ok, node_rule, node_ok, entry_ok, pattern_ok}
+use Rattle.rules.specs.Schemas.{schema_note_ok, number_ok, string_ok, list_ok, array_ok, object_pairs_ok, object_words_ok, object_ok, ref_ok, schema_rule, schema_ok}
 use Rattle.tables.specs.Check.{record_count, record_ok, first_bad, records_from, records_fault, lent_fault, tables_fault}
-use Rattle.tables.specs.Facts.{Sized, WellFormed}
+use Rattle.tables.specs.Facts.{WellFormed}
 use Rattle.lists.proofs.Walked.{every_at, first_at}
 use Rattle.records.proofs.Cases.{untagged, tagged}
 use Rattle.rules.proofs.Rules.{bases_absent, bases_listed}

@@ -9,7 +9,7 @@ use lib.ListN.{length}
 use lib.Dec.{eqb, leb}
 use Rattle.text.specs.Choice.{both_left, both_right}
 use Rattle.text.specs.Text.{text_words, text_count}
-use Rattle.layout.specs.Layout.{Tables, tables, NONE, node_words, note_words, schema_words, registry_words, pattern_words, most_bytes, most_texts, most_nodes, most_notes, most_schemas, most_entries, most_patterns, most_links, most_numbers, node_count, note_count, schema_count, entry_count, pattern_count}
+use Rattle.layout.specs.Layout.{Tables, tables, note_words, schema_words, most_bytes, most_texts, most_notes, most_schemas, most_links, most_numbers, node_count, note_count, schema_count, entry_count, pattern_count}
 use Rattle.tables.specs.declared.check.Fault.{Fault}
 use Rattle.tables.specs.declared.check.Fault.TheVariants.{Sound, Bad}
 use Rattle.records.specs.declared.Counts.{Counts}

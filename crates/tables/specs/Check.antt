@@ -1,6 +1,6 @@
 -- Document 01, "Answers by number", 20: sizes of tables 1 to 8, then records of tables 1 to 6; the first bad record of the first bad
 -- table, or NONE for a size. Assumes nothing.
-use Rattle.std.specs.Prelude.{ℕ, zero, suc, ◌+◌, ◌*◌, ◌/◌, ◌%◌, List, Bool, true, false, length, leb, ltb, eqb}
+use Rattle.std.specs.Prelude.{ℕ, zero, suc, ◌/◌, ◌%◌, List, Bool, length, leb, ltb, eqb}
 use Rattle.text.specs.Choice.{both, pick}
 use Rattle.text.specs.Text.{text_words, text_count}
 use Rattle.tables.specs.declared.check.Fault.{Fault}

@@ -1,5 +1,4 @@
 use mathlib.Core.Path.{sym, ap, ◌∙◌}
-use Prim.Native.Nat.{◌-◌}
 use native.Mathlib.Omega.{arith}
 use Rattle.layout.specs.Walk.{first}
 use Rattle.layout.proofs.Walk.{first_more, first_stop, first_end}

@@ -1,4 +1,3 @@
-use Prim.Native.Nat.{◌-◌}
 use native.Mathlib.Omega.{arith}
 use Rattle.navigate.specs.Path.{step_count}
 use Rattle.navigate.proofs.Walking.{walk_begin, walk_more, walk_stop, walk_end}
