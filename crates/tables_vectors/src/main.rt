@@ -6,6 +6,7 @@
 // there are and these, each a place and a word.
 #![tactic(auto)]
 
+use std::alloc::AllocError;
 use stored::report;
 use tables::check::Fault;
 
@@ -265,11 +266,17 @@ fn run_all(text: &[u8], words: &mut [u32], pool: &mut [u8], numbers: &mut [u64])
     report::print(wrong, b" wrong\n");
 }
 
-fn main() {
-    let mut text = [0u8; 524288];
-    let mut words = [0u32; 262144];
-    let mut pool = [0u8; 66560];
-    let mut numbers = [0u64; 4608];
-    let n = io::read_full(0, &mut text);
-    run_all(&text[..n], &mut words, &mut pool, &mut numbers);
+// Reads the whole input and runs its cases.
+fn run(text: &mut [u8], words: &mut [u32], pool: &mut [u8], numbers: &mut [u64]) {
+    let n = io::read_full(0, text);
+    run_all(&text[..n], words, pool, numbers);
+}
+
+fn main(rt: HostRuntime) -> Result<(), AllocError> {
+    let mut text = vec![in rt.alloc(); 0u8; 524288]?;
+    let mut words = vec![in rt.alloc(); 0u32; 262144]?;
+    let mut pool = vec![in rt.alloc(); 0u8; 66560]?;
+    let mut numbers = vec![in rt.alloc(); 0u64; 4608]?;
+    run(&mut text, &mut words, &mut pool, &mut numbers);
+    Ok(())
 }
