@@ -1,0 +1,21 @@
+use Prim.Native.Nat.{◌-◌}
+use native.Mathlib.Omega.{arith}
+use Rattle.json_vectors.proofs.rows_wrong.Goals as goal
+
+pub loop-i-init : goal.loop-i-init
+loop-i-init c = omega arith
+
+pub overflow_add-sum : goal.overflow_add-sum
+overflow_add-sum c = omega arith
+
+pub overflow_add-i : goal.overflow_add-i
+overflow_add-i c = omega arith
+
+pub loop-i-smaller : goal.loop-i-smaller
+loop-i-smaller c = omega arith
+
+pub loop-i-preserved : goal.loop-i-preserved
+loop-i-preserved c = omega arith
+
+pub returns : goal.returns
+returns c = omega arith
