@@ -4,7 +4,7 @@ use Rattle.text.specs.Choice.{pick}
 use Rattle.text.specs.Text.{same_text, padded}
 use Rattle.error.specs.declared.Answer.{Answer}
 use Rattle.error.specs.declared.Used.{Used}
-use Rattle.error.specs.Answers.{plainAnswer, badTable, foundRecord, withUsed}
+use Rattle.error.specs.Answers.{plain_answer, bad_table, found_record, with_used}
 use Rattle.error.specs.Paths.{levels}
 use Rattle.layout.specs.Layout.{Tables, note_words, schema_words, most_notes, most_schemas, most_links, note_count, schema_count}
 use Rattle.lookup.specs.Lookup.{find_in}
@@ -77,18 +77,18 @@ counts_of t = record { notes = note_count t.notes; schemas = schema_count t.sche
 
 -- "a refusal keeps nothing": the used records as they were, and their counts as passed
 abbrev pub finished : Tables → Used → Result ℕ → Compiled
-finished T u (ok s t) = leave T (withUsed (foundRecord s) (counts_of t)) t
-finished T u (refuse number) = leave T (withUsed (plainAnswer number) u) (words_of (used_tables T u))
+finished T u (ok s t) = leave T (with_used (found_record s) (counts_of t)) t
+finished T u (refuse number) = leave T (with_used (plain_answer number) u) (words_of (used_tables T u))
 
 -- answers 20 and 21 write nothing
 abbrev pub untouched : Tables → Answer → Compiled
 untouched T a = record { answer = a; notes = T.notes; schemas = T.schemas; links = T.links }
 
 abbrev pub or_fault : Tables → Used → Fault → Compiled → Compiled
-or_fault T u f rest = on_fault f (λ table n. untouched T (withUsed (badTable table n) u)) rest
+or_fault T u f rest = on_fault f (λ table n. untouched T (with_used (bad_table table n) u)) rest
 
 -- bad tables first, then a schema number that no used record has, then the work
 unfoldable pub compile_of : Tables → Used → ℕ → Compiled
 compile_of T u s =
     or_fault T u (used_fault T u)
-    (pick (leb u.schemas s) (untouched T (withUsed (plainAnswer 21) u)) (finished T u (compiled_of T u s)))
+    (pick (leb u.schemas s) (untouched T (with_used (plain_answer 21) u)) (finished T u (compiled_of T u s)))

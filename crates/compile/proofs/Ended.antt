@@ -14,7 +14,7 @@ use Rattle.text.specs.Text.{padded}
 use Rattle.layout.specs.Layout.{Tables}
 use Rattle.error.specs.declared.Used.{Used}
 use Rattle.error.specs.declared.Answer.{Answer}
-use Rattle.error.specs.Answers.{plainAnswer, badTable, foundRecord, withUsed}
+use Rattle.error.specs.Answers.{plain_answer, bad_table, found_record, with_used}
 use Rattle.error.specs.Paths.{levels}
 use Rattle.append.specs.Append.{cleared}
 use Rattle.tables.specs.declared.check.Fault.TheVariants.{Sound, Bad}
@@ -55,13 +55,13 @@ module _ (a : Made) (u : Used) where
   unfolding kept_of
   kept-refused h = rw (ne_eqb a.no 0 h)
 
-  pub answered-done : a.no ≡ 0 → {x r : Answer} → x ≡ foundRecord a.rec → r ≡ withUsed x u → r ≡ answered_of a u
+  pub answered-done : a.no ≡ 0 → {x r : Answer} → x ≡ found_record a.rec → r ≡ with_used x u → r ≡ answered_of a u
   unfolding answered_of
-  answered-done h x r = rw (eq-eqb a.no 0 h) (r ∙ ap (λ (y : Answer). withUsed y u) x)
+  answered-done h x r = rw (eq-eqb a.no 0 h) (r ∙ ap (λ (y : Answer). with_used y u) x)
 
-  pub answered-refused : (a.no ≡ 0 → ⊥) → {x r : Answer} → x ≡ plainAnswer a.no → r ≡ withUsed x u → r ≡ answered_of a u
+  pub answered-refused : (a.no ≡ 0 → ⊥) → {x r : Answer} → x ≡ plain_answer a.no → r ≡ with_used x u → r ≡ answered_of a u
   unfolding answered_of
-  answered-refused h x r = rw (ne_eqb a.no 0 h) (r ∙ ap (λ (y : Answer). withUsed y u) x)
+  answered-refused h x r = rw (ne_eqb a.no 0 h) (r ∙ ap (λ (y : Answer). with_used y u) x)
 
 -- what `clear` leaves
 abbrev pub Cleared : List ℕ → List ℕ → List ℕ → List ℕ → List ℕ → List ℕ → Used → Type 0
@@ -81,7 +81,7 @@ module _ (P T R : List ℕ) (u : Used) (N S L N₁ S₁ L₁ N' S' L' X X' : Lis
   links-long = ap (λ (D : Source). D.links_lent) o.ran.source
 
   -- for what was done, and for a refusal, which keeps what was used before as it was
-  ends : (b : Bool) → compile_at C level (state_of u N S L) s ≡ pick b (done (state_of a.used N₁ S₁ L₁) a.rec) (refused a.no) → Cleared N₁ S₁ L₁ N' S' L' (pick b a.used u) → {r : Answer} → r ≡ pick b (withUsed (foundRecord a.rec) (pick b a.used u)) (withUsed (plainAnswer a.no) (pick b a.used u)) → compiled r N' S' L' ≡ ended_of N S L u (compile_at C level (state_of u N S L) s)
+  ends : (b : Bool) → compile_at C level (state_of u N S L) s ≡ pick b (done (state_of a.used N₁ S₁ L₁) a.rec) (refused a.no) → Cleared N₁ S₁ L₁ N' S' L' (pick b a.used u) → {r : Answer} → r ≡ pick b (with_used (found_record a.rec) (pick b a.used u)) (with_used (plain_answer a.no) (pick b a.used u)) → compiled r N' S' L' ≡ ended_of N S L u (compile_at C level (state_of u N S L) s)
   unfolding ended_of state_of
   ends true e c r =
       rw e
@@ -103,17 +103,17 @@ module _ (P T R : List ℕ) (u : Used) (N S L N₁ S₁ L₁ N' S' L' X X' : Lis
 -- over the tables, and as the call is defined
 ended_same : (T : Tables) (u : Used) {C : Source} {o : Out} {r : Result ℕ} → Same C o r → ended_of T.notes T.schemas T.links u o ≡ finished T u r
 unfolding ended_of used_tables
-ended_same T u (made st n g) = parts (ap (withUsed (foundRecord n)) (sym (counts_are g))) refl refl refl
+ended_same T u (made st n g) = parts (ap (with_used (found_record n)) (sym (counts_are g))) refl refl refl
 ended_same T u (stopped k) = refl
 
 module _ (T : Tables) (u : Used) (s : ℕ) where
-  pub answer_bad : (table n : ℕ) → used_fault T u ≡ Bad table n → {x r : Answer} → x ≡ badTable table n → r ≡ withUsed x u → compiled r T.notes T.schemas T.links ≡ compile_of T u s
+  pub answer_bad : (table n : ℕ) → used_fault T u ≡ Bad table n → {x r : Answer} → x ≡ bad_table table n → r ≡ with_used x u → compiled r T.notes T.schemas T.links ≡ compile_of T u s
   unfolding compile_of
-  answer_bad table n h x r = rw h (parts (r ∙ ap (λ (y : Answer). withUsed y u) x) refl refl refl)
+  answer_bad table n h x r = rw h (parts (r ∙ ap (λ (y : Answer). with_used y u) x) refl refl refl)
 
-  pub answer_beyond : used_fault T u ≡ Sound → u.schemas ≤ s → {x r : Answer} → x ≡ plainAnswer 21 → r ≡ withUsed x u → compiled r T.notes T.schemas T.links ≡ compile_of T u s
+  pub answer_beyond : used_fault T u ≡ Sound → u.schemas ≤ s → {x r : Answer} → x ≡ plain_answer 21 → r ≡ with_used x u → compiled r T.notes T.schemas T.links ≡ compile_of T u s
   unfolding compile_of
-  answer_beyond h l x r = rw (h, le-leb u.schemas s l) (parts (r ∙ ap (λ (y : Answer). withUsed y u) x) refl refl refl)
+  answer_beyond h l x r = rw (h, le-leb u.schemas s l) (parts (r ∙ ap (λ (y : Answer). with_used y u) x) refl refl refl)
 
   pub answer-built : used_fault T u ≡ Sound → s < u.schemas → {z : Compiled} → z ≡ ended_of T.notes T.schemas T.links u (compile_at (source_for T u) levels (state_for T u) s) → z ≡ compile_of T u s
   unfolding compile_of

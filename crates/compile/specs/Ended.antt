@@ -4,7 +4,7 @@ use Rattle.text.specs.Choice.{pick}
 use Rattle.text.specs.Text.{padded}
 use Rattle.error.specs.declared.Used.{Used}
 use Rattle.error.specs.declared.Answer.{Answer}
-use Rattle.error.specs.Answers.{plainAnswer, foundRecord, withUsed}
+use Rattle.error.specs.Answers.{plain_answer, found_record, with_used}
 use Rattle.layout.specs.Layout.{note_words, schema_words}
 use Rattle.compilation.specs.Entry.{Compiled}
 use Rattle.compilation.specs.State.{State, Out, done, refused}
@@ -15,7 +15,7 @@ unfoldable pub kept_of : Made → Used → Used
 kept_of m u = pick (eqb m.no 0) m.used u
 
 unfoldable pub answered_of : Made → Used → Answer
-answered_of m u = pick (eqb m.no 0) (withUsed (foundRecord m.rec) u) (withUsed (plainAnswer m.no) u)
+answered_of m u = pick (eqb m.no 0) (with_used (found_record m.rec) u) (with_used (plain_answer m.no) u)
 
 abbrev pub compiled : Answer → List ℕ → List ℕ → List ℕ → Compiled
 compiled answer notes schemas links = record { answer = answer; notes = notes; schemas = schemas; links = links }
@@ -26,6 +26,6 @@ counted_in st = record { notes = st.un; schemas = st.us; links = st.ul }
 -- a refusal keeps only what was used before
 unfoldable pub ended_of : List ℕ → List ℕ → List ℕ → Used → Out → Compiled
 ended_of notes schemas links u (done st n) =
-    compiled (withUsed (foundRecord n) (counted_in st)) (padded st.notes (length notes)) (padded st.schemas (length schemas)) (padded st.links (length links))
+    compiled (with_used (found_record n) (counted_in st)) (padded st.notes (length notes)) (padded st.schemas (length schemas)) (padded st.links (length links))
 ended_of notes schemas links u (refused number) =
-    compiled (withUsed (plainAnswer number) u) (padded (take (u.notes * note_words) notes) (length notes)) (padded (take (u.schemas * schema_words) schemas) (length schemas)) (padded (take u.links links) (length links))
+    compiled (with_used (plain_answer number) u) (padded (take (u.notes * note_words) notes) (length notes)) (padded (take (u.schemas * schema_words) schemas) (length schemas)) (padded (take u.links links) (length links))

@@ -8,8 +8,8 @@ use Rattle.error.specs.declared.Detail.{Detail}
 use Rattle.error.specs.declared.Detail.TheVariants.{Empty}
 
 -- calls other than compile use no records
-abbrev pub noUsed : Used
-noUsed = record { notes = NONE; schemas = NONE; links = NONE }
+abbrev pub no_used : Used
+no_used = record { notes = NONE; schemas = NONE; links = NONE }
 
 -- an answer that refuses no value: its number, a table and a place
 unfoldable pub answer_of : ℕ → ℕ → ℕ → Answer
@@ -24,24 +24,24 @@ answer_of number table place =
       detail = Empty;
       steps = 0;
       kinds = 0;
-      used = noUsed;
+      used = no_used;
     }
 
 -- an answer that carries nothing but its number
-abbrev pub plainAnswer : ℕ → Answer
-plainAnswer number = answer_of number NONE NONE
+abbrev pub plain_answer : ℕ → Answer
+plain_answer number = answer_of number NONE NONE
 
 -- 20: the table's number and its first bad record, or NONE for a size
-abbrev pub badTable : ℕ → ℕ → Answer
-badTable table place = answer_of 20 table place
+abbrev pub bad_table : ℕ → ℕ → Answer
+bad_table table place = answer_of 20 table place
 
 -- 0 of navigation and of compile gives the record
-abbrev pub foundRecord : ℕ → Answer
-foundRecord place = answer_of 0 NONE place
+abbrev pub found_record : ℕ → Answer
+found_record place = answer_of 0 NONE place
 
 -- 1 to 14: node, schema record, hint, detail, and how many steps each path has
-unfoldable pub refusalOf : ℕ → ℕ → ℕ → ℕ → Detail → ℕ → ℕ → Answer
-refusalOf number node schema hint detail steps kinds =
+unfoldable pub refusal_of : ℕ → ℕ → ℕ → ℕ → Detail → ℕ → ℕ → Answer
+refusal_of number node schema hint detail steps kinds =
     record {
       number = number;
       table = NONE;
@@ -52,12 +52,12 @@ refusalOf number node schema hint detail steps kinds =
       detail = detail;
       steps = steps;
       kinds = kinds;
-      used = noUsed;
+      used = no_used;
     }
 
 -- compile always gives its used counts
-unfoldable pub withUsed : Answer → Used → Answer
-withUsed a used =
+unfoldable pub with_used : Answer → Used → Answer
+with_used a used =
     record {
       number = a.number;
       table = a.table;

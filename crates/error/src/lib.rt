@@ -2,7 +2,7 @@
 #![tactic(auto)]
 
 ghost use Rattle.std.specs.Prelude.{◌≡◌};
-ghost use Rattle.error.specs.Answers.{answer_of, plainAnswer, badTable, foundRecord, refusalOf, withUsed};
+ghost use Rattle.error.specs.Answers.{answer_of, plain_answer, bad_table, found_record, refusal_of, with_used};
 
 use number::tests::Range;
 
@@ -88,21 +88,21 @@ fn at_place(number: u32, table: u32, place: u32) -> Answer
 
 // An answer that carries nothing but its number.
 pub fn plain(number: u32) -> Answer
-    ensures { result ≡ plainAnswer number }
+    ensures { result ≡ plain_answer number }
 {
     at_place(number, NONE, NONE)
 }
 
 // 20: a bad table, and its first bad record, or NONE for a size.
 pub fn bad_table(table: u32, place: u32) -> Answer
-    ensures { result ≡ badTable table place }
+    ensures { result ≡ bad_table table place }
 {
     at_place(20, table, place)
 }
 
 // 0 with the record: a node that is found, a schema that is made.
 pub fn found(place: u32) -> Answer
-    ensures { result ≡ foundRecord place }
+    ensures { result ≡ found_record place }
 {
     at_place(0, NONE, place)
 }
@@ -117,7 +117,7 @@ pub fn refusal(
     steps: u32,
     kinds: u32,
 ) -> Answer
-    ensures { result ≡ refusalOf number node schema hint detail steps kinds }
+    ensures { result ≡ refusal_of number node schema hint detail steps kinds }
 {
     Answer {
         number,
@@ -139,7 +139,7 @@ pub fn refusal(
 
 // Compile's answers carry their used counts, whatever they are.
 pub fn with_used(a: Answer, used: Used) -> Answer
-    ensures { result ≡ withUsed a used }
+    ensures { result ≡ with_used a used }
 {
     let detail = a.detail;
     Answer {

@@ -9,7 +9,7 @@ use lib.Dec.{ltb}
 use borrow.Author.Tests.{lt-ltb, le-ltb}
 use Rattle.text.specs.Choice.{either, pick}
 use Rattle.error.specs.declared.Mode.{Mode}
-use Rattle.error.specs.Answers.{answer_of, plainAnswer, refusalOf}
+use Rattle.error.specs.Answers.{answer_of, plain_answer, refusal_of}
 use Rattle.error.specs.Paths.{Step, instance_buffer, levels}
 use Rattle.error.proofs.Paths.{kinds-back}
 use Rattle.layout.specs.Layout.{Tables, node_count, schema_count}
@@ -27,11 +27,11 @@ module _ (T : Tables) (mode : Mode) (node s i k : ℕ) where
   abbrev visited : Validated
   visited = answered (visit_of T mode levels node s) i k
 
-  past_buffers : (b : Bool) → Comes (pick b (empty_handed (plainAnswer 22) i k) visited) → pick b (empty_handed (plainAnswer 22) i k) visited ≡ visited
+  past_buffers : (b : Bool) → Comes (pick b (empty_handed (plain_answer 22) i k) visited) → pick b (empty_handed (plain_answer 22) i k) visited ≡ visited
   past_buffers true c = absurd (c.buffers (unfold answer_of in refl))
   past_buffers false c = refl
 
-  past_places : (b : Bool) (v : Validated) → (Comes v → v ≡ visited) → Comes (pick b v (empty_handed (plainAnswer 21) i k)) → pick b v (empty_handed (plainAnswer 21) i k) ≡ visited
+  past_places : (b : Bool) (v : Validated) → (Comes v → v ≡ visited) → Comes (pick b v (empty_handed (plain_answer 21) i k)) → pick b v (empty_handed (plain_answer 21) i k) ≡ visited
   past_places true v h c = h c
   past_places false v h c = absurd (c.places (unfold answer_of in refl))
 
@@ -78,7 +78,7 @@ end_or (ends n) = n
 
 module _ (T T' : Tables) (i k : ℕ) where
   same_refusal : (e e' : Error) → refusal_by (opened T) e ≡ refusal_by (opened T') e' → SameCall T T' (answered (refused e) i k) (answered (refused e') i k)
-  unfolding refusalOf
+  unfolding refusal_of
   same_refusal e e' h = record {
     number = ap (λ (x : Refusal Tree). x.number) h;
     node = ap (λ (x : Refusal Tree). x.node) h;
@@ -91,10 +91,10 @@ module _ (T T' : Tables) (i k : ℕ) where
   }
 
   same_invalid : (p p' : List Step) → p ≡ p' → SameCall T T' (answered (invalid p) i k) (answered (invalid p') i k)
-  unfolding refusalOf
+  unfolding refusal_of
   same_invalid p p' h = record { number = refl; node = refl; hint = refl; detail = refl; steps = ap (λ (x : List Step). length x) h; instance = ap (λ (x : List Step). instance_buffer x i) h; path = refl; schema = λ p q. absurd (p refl) }
 
-  same_plain : (n n' : ℕ) → n ≡ n' → SameCall T T' (empty_handed (plainAnswer n) i k) (empty_handed (plainAnswer n') i k)
+  same_plain : (n n' : ℕ) → n ≡ n' → SameCall T T' (empty_handed (plain_answer n) i k) (empty_handed (plain_answer n') i k)
   unfolding answer_of
   same_plain n n' h = record { number = h; node = refl; hint = refl; detail = refl; steps = refl; instance = refl; path = refl; schema = λ p q. absurd (p refl) }
 

@@ -8,7 +8,7 @@ use borrow.Author.Tests.{le-leb}
 use Rattle.text.specs.Choice.{both-holds}
 use Rattle.text.specs.Text.{padded}
 use Rattle.error.specs.declared.Used.{Used}
-use Rattle.error.specs.Answers.{withUsed}
+use Rattle.error.specs.Answers.{with_used}
 use Rattle.layout.specs.Layout.{Tables, most_notes, most_schemas, most_links, note_count, schema_count}
 use Rattle.tables.specs.declared.check.Fault.TheVariants.{Sound}
 use Rattle.tables.specs.Check.{used_size, sizes_fault, records_fault, lent_fault, tables_fault}
@@ -37,7 +37,7 @@ module _ (T : Tables) (u : Used) (s : ℕ) (h : Compiles T u s) where
   passed = (compile_keeps_the_check T u s h).sound
 
   counted : Within T (compile_of T u s)
-  unfolding withUsed padded note_count schema_count
+  unfolding with_used padded note_count schema_count
   counted =
       let d = done T u s h in
       let w : Words = d.words in

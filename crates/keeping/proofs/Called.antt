@@ -10,7 +10,7 @@ use borrow.Author.Tests.{leb-false}
 use Rattle.text.specs.Choice.{pick}
 use Rattle.text.specs.Text.{same_text, padded}
 use Rattle.error.specs.declared.Used.{Used}
-use Rattle.error.specs.Answers.{plainAnswer, foundRecord, withUsed, answer_of}
+use Rattle.error.specs.Answers.{plain_answer, found_record, with_used, answer_of}
 use Rattle.error.specs.Paths.{levels}
 use Rattle.layout.specs.Layout.{Tables, most_notes, most_schemas, most_links, note_count, schema_count}
 use Rattle.lookup.specs.Lookup.{find_in}
@@ -49,13 +49,13 @@ module _ (T : Tables) (u : Used) (s : ℕ) where
     pub place : ℕ
     pub words : Words
     pub is : compiled_of T u s ≡ ok place words
-    pub gives : compile_of T u s ≡ leave T (withUsed (foundRecord place) (counts_of words)) words
+    pub gives : compile_of T u s ≡ leave T (with_used (found_record place) (counts_of words)) words
 
   abbrev outcome : Fault → Bool → Result ℕ → Compiled
-  outcome f b x = or_fault T u f (pick b (untouched T (withUsed (plainAnswer 21) u)) (finished T u x))
+  outcome f b x = or_fault T u f (pick b (untouched T (with_used (plain_answer 21) u)) (finished T u x))
 
   done_at : (f : Fault) → used_fault T u ≡ f → (b : Bool) → leb u.schemas s ≡ b → (x : Result ℕ) → compiled_of T u s ≡ x → Says x → (outcome f b x).answer.number ≡ 0 → Done
-  unfolding withUsed answer_of
+  unfolding with_used answer_of
   done_at (Bad table n) e b l x c y h = absurd (omega arith)
   done_at Sound e true l x c y h = absurd (omega arith)
   done_at Sound e false l (refuse n) c (because m z) h = absurd (z h)
@@ -84,13 +84,13 @@ module _ (T : Tables) (u : Used) (s : ℕ) where
     whole = whole_grown (compiled_same T u d.sound s d.below) d.place d.words d.is
 
     pub left_is : left_by T (compile_of T u s) ≡ grown (used_tables T u) d.words
-    unfolding left_by used_tables withUsed padded
+    unfolding left_by used_tables with_used padded
     left_is =
         rw d.gives
         (rw (take_at d.words.notes _ (note_count d.words.notes * 9) (sym whole.notes), take_at d.words.schemas _ (schema_count d.words.schemas * 16) (sym whole.schemas), take_at d.words.links _ (length d.words.links) refl))
 
     pub place_is : (compile_of T u s).answer.place ≡ d.place
-    unfolding withUsed answer_of
+    unfolding with_used answer_of
     place_is = rw d.gives
 
     pub compiling_is : compiling (used_tables T u) (room_of T) s ≡ ok d.place d.words

@@ -7,7 +7,7 @@ use borrow.Author.Tests.{lt-ltb, le-ltb}
 use Rattle.text.specs.Text.{text_count}
 use Rattle.layout.specs.Layout.{Tables, node_count}
 use Rattle.error.specs.declared.Answer.{Answer}
-use Rattle.error.specs.Answers.{plainAnswer, badTable}
+use Rattle.error.specs.Answers.{plain_answer, bad_table}
 use Rattle.lookup.specs.declared.Found.{Found}
 use Rattle.tables.specs.declared.check.Fault.{Fault}
 use Rattle.tables.specs.declared.check.Fault.TheVariants.{Sound, Bad}
@@ -17,17 +17,17 @@ use Rattle.navigate.specs.Path.{steps_of, path_fault}
 use Rattle.navigate.specs.Navigate.{found_answer, walk_of, navigate_of}
 
 module _ (T : Tables) (node : ℕ) (path : List ℕ) (wanted : Bool) {tabled : Fault} (tested : tabled ≡ tables_fault T) where
-  pub bad_tables : {table place : ℕ} {r : Answer} → tabled ≡ Bad table place → r ≡ badTable table place → r ≡ navigate_of T node path wanted
+  pub bad_tables : {table place : ℕ} {r : Answer} → tabled ≡ Bad table place → r ≡ bad_table table place → r ≡ navigate_of T node path wanted
   unfolding navigate_of
   bad_tables f h = rw (← tested, f) h
 
   module _ {count : ℕ} {pathed : Fault} (sound : tabled ≡ Sound) (counted : count ≡ text_count T.texts) (walked : pathed ≡ path_fault count path) where
-    pub bad_path : {table place : ℕ} {r : Answer} → pathed ≡ Bad table place → r ≡ badTable table place → r ≡ navigate_of T node path wanted
+    pub bad_path : {table place : ℕ} {r : Answer} → pathed ≡ Bad table place → r ≡ bad_table table place → r ≡ navigate_of T node path wanted
     unfolding navigate_of
     bad_path f h = rw (← tested, sound, ← counted, ← walked, f) h
 
     module _ {nodes : ℕ} {r : Answer} (good : pathed ≡ Sound) (many : nodes ≡ node_count T.nodes) where
-      pub no_node : nodes ≤ node → r ≡ plainAnswer 21 → r ≡ navigate_of T node path wanted
+      pub no_node : nodes ≤ node → r ≡ plain_answer 21 → r ≡ navigate_of T node path wanted
       unfolding navigate_of walk_of
       no_node l h = rw (← tested, sound, ← counted, ← walked, good, ← many, le-ltb node nodes l) h
 

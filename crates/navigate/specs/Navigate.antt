@@ -4,7 +4,7 @@ use Rattle.text.specs.Choice.{pick}
 use Rattle.text.specs.Text.{text_count}
 use Rattle.layout.specs.Layout.{Tables, node_count}
 use Rattle.error.specs.declared.Answer.{Answer}
-use Rattle.error.specs.Answers.{plainAnswer, badTable, foundRecord}
+use Rattle.error.specs.Answers.{plain_answer, bad_table, found_record}
 use Rattle.lookup.specs.declared.Found.{Found}
 use Rattle.lookup.specs.declared.Found.TheVariants.{At, Nothing}
 use Rattle.tables.specs.declared.check.Fault.{Fault}
@@ -14,19 +14,19 @@ use Rattle.navigate.specs.Path.{steps_of, path_fault}
 
 -- 20 where there is a fault, else the rest
 abbrev pub fault_or : Fault → Answer → Answer
-fault_or f rest = on_fault f badTable rest
+fault_or f rest = on_fault f bad_table rest
 
 -- 0 with the node that is found, 40 where nothing is
 abbrev pub found_answer : Found → Answer
-found_answer (At n) = foundRecord n
-found_answer Nothing = plainAnswer 40
+found_answer (At n) = found_record n
+found_answer Nothing = plain_answer 40
 
 -- 21 where there is no such node, else the walk
 unfoldable pub walk_of : Tables → ℕ → List ℕ → Bool → Answer
 walk_of T node path wanted =
     pick (ltb node (node_count T.nodes))
     (found_answer (navigate_over T.pool T.texts T.nodes T.links wanted node (steps_of path)))
-    (plainAnswer 21)
+    (plain_answer 21)
 
 -- the tables, the path, the node number, then the walk
 unfoldable pub navigate_of : Tables → ℕ → List ℕ → Bool → Answer

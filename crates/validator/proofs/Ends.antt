@@ -13,7 +13,7 @@ use borrow.Author.Tests.{ltb-false}
 use Rattle.text.specs.Choice.{either, pick}
 use Rattle.text.specs.Text.{padded}
 use Rattle.error.specs.declared.Answer.{Answer}
-use Rattle.error.specs.Answers.{plainAnswer}
+use Rattle.error.specs.Answers.{plain_answer}
 use Rattle.error.specs.declared.Mode.{Mode}
 use Rattle.error.specs.Paths.{Step, path_words, instance_buffer, schema_buffer}
 use Rattle.error.proofs.Paths.{path-length}
@@ -120,7 +120,7 @@ abbrev on_begun : Begun → ℕ → ℕ → Validated → Validated
 on_begun (Answered a) i k rest = empty_handed a i k
 on_begun Visit i k rest = rest
 
-begun_cases : (f : Fault) (b c d : Bool) (i k : ℕ) (rest : Validated) → checked_first f i k (pick b (pick c (pick d (empty_handed (plainAnswer 22) i k) rest) (empty_handed (plainAnswer 21) i k)) (empty_handed (plainAnswer 21) i k)) ≡ on_begun (sound_or f (pick b (pick c (pick d (Answered (plainAnswer 22)) Visit) (Answered (plainAnswer 21))) (Answered (plainAnswer 21)))) i k rest
+begun_cases : (f : Fault) (b c d : Bool) (i k : ℕ) (rest : Validated) → checked_first f i k (pick b (pick c (pick d (empty_handed (plain_answer 22) i k) rest) (empty_handed (plain_answer 21) i k)) (empty_handed (plain_answer 21) i k)) ≡ on_begun (sound_or f (pick b (pick c (pick d (Answered (plain_answer 22)) Visit) (Answered (plain_answer 21))) (Answered (plain_answer 21)))) i k rest
 begun_cases (Bad table n) b c d i k rest = refl
 begun_cases Sound false c d i k rest = refl
 begun_cases Sound true false d i k rest = refl
@@ -144,7 +144,7 @@ pub record Started (T : Tables) (i k : ℕ) : Type 0 where
   pub schema : 64 ≤ k
   pub bytes : length T.pool ≤ most_bytes
 
-start_cases : (T : Tables) (f : Fault) (b c x y : Bool) (i k : ℕ) → f ≡ tables_fault T → x ≡ ltb i 128 → y ≡ ltb k 64 → Visit ≡ sound_or f (pick b (pick c (pick (either x y) (Answered (plainAnswer 22)) Visit) (Answered (plainAnswer 21))) (Answered (plainAnswer 21))) → Started T i k
+start_cases : (T : Tables) (f : Fault) (b c x y : Bool) (i k : ℕ) → f ≡ tables_fault T → x ≡ ltb i 128 → y ≡ ltb k 64 → Visit ≡ sound_or f (pick b (pick c (pick (either x y) (Answered (plain_answer 22)) Visit) (Answered (plain_answer 21))) (Answered (plain_answer 21))) → Started T i k
 start_cases T (Bad table n) b c x y i k e p q h = absurd (let z : ◌≡◌ {A = ℕ} 0 1 = cc in omega arith)
 start_cases T Sound false c x y i k e p q h = absurd (let z : ◌≡◌ {A = ℕ} 0 1 = cc in omega arith)
 start_cases T Sound true false x y i k e p q h = absurd (let z : ◌≡◌ {A = ℕ} 0 1 = cc in omega arith)

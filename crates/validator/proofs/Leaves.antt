@@ -9,7 +9,7 @@ use lib.Dec.{eqb}
 use lib.ListN.{set}
 use borrow.Author.Tests.{eq-eqb, ne_eqb, lt-ltb, le-ltb}
 use Rattle.error.specs.declared.Detail.{Detail}
-use Rattle.error.specs.Answers.{NONE, plainAnswer, badTable}
+use Rattle.error.specs.Answers.{NONE, plain_answer, bad_table}
 use Rattle.error.specs.declared.Answer.{Answer}
 use Rattle.layout.specs.Layout.{Tables, note_error_message, node_count, schema_count, properties_first, properties_count, object_closed, additional_properties}
 use Rattle.lookup.specs.declared.Found.{Found}
@@ -90,26 +90,26 @@ module _ (pool texts schemas links : List ℕ) (s t a b : ℕ) (f : Found) (p : 
 
 -- ---- what comes before the work
 module _ (T : Tables) (n s i k : ℕ) (f : Fault) (e : f ≡ tables_fault T) where
-  pub begun_bad : (table place : ℕ) (a : Answer) → f ≡ Bad table place → a ≡ badTable table place → Answered a ≡ begun_of T n s i k
+  pub begun_bad : (table place : ℕ) (a : Answer) → f ≡ Bad table place → a ≡ bad_table table place → Answered a ≡ begun_of T n s i k
   unfolding begun_of
   begun_bad table place a h q = rw (← e, h, q)
 
   module _ (h : f ≡ Sound) (nodes : ℕ) (p : nodes ≡ node_count T.nodes) where
-    pub begun_node : (a : Answer) → nodes ≤ n → a ≡ plainAnswer 21 → Answered a ≡ begun_of T n s i k
+    pub begun_node : (a : Answer) → nodes ≤ n → a ≡ plain_answer 21 → Answered a ≡ begun_of T n s i k
     unfolding begun_of
     begun_node a l q = rw (← e, h, ← p, q) (simp (le-ltb n nodes l))
 
     module _ (l : n < nodes) (schemas : ℕ) (w : schemas ≡ schema_count T.schemas) where
-      pub begun_schema : (a : Answer) → schemas ≤ s → a ≡ plainAnswer 21 → Answered a ≡ begun_of T n s i k
+      pub begun_schema : (a : Answer) → schemas ≤ s → a ≡ plain_answer 21 → Answered a ≡ begun_of T n s i k
       unfolding begun_of
       begun_schema a g q = rw (← e, h, ← p, ← w, q) (simp (lt-ltb n nodes l, le-ltb s schemas g))
 
       module _ (g : s < schemas) where
-        pub begun_instance : (a : Answer) → i < 128 → a ≡ plainAnswer 22 → Answered a ≡ begun_of T n s i k
+        pub begun_instance : (a : Answer) → i < 128 → a ≡ plain_answer 22 → Answered a ≡ begun_of T n s i k
         unfolding begun_of
         begun_instance a x q = rw (← e, h, ← p, ← w, q) (simp (lt-ltb n nodes l, lt-ltb s schemas g, lt-ltb i 128 x))
 
-        pub begun_steps : (a : Answer) → 128 ≤ i → k < 64 → a ≡ plainAnswer 22 → Answered a ≡ begun_of T n s i k
+        pub begun_steps : (a : Answer) → 128 ≤ i → k < 64 → a ≡ plain_answer 22 → Answered a ≡ begun_of T n s i k
         unfolding begun_of
         begun_steps a x y q = rw (← e, h, ← p, ← w, q) (simp (lt-ltb n nodes l, lt-ltb s schemas g, le-ltb i 128 x, lt-ltb k 64 y))
 

@@ -9,7 +9,7 @@ use Rattle.schema.specs.Shape.{Note, Object, Shape, plain, any_of, all_of, array
 use Rattle.schema.specs.Look.{words_of, look, raw, detecting, note_at, list_of, array_of, object_of, optional, sort_object}
 use Rattle.error.specs.declared.Answer.{Answer}
 use Rattle.error.specs.declared.Detail.TheVariants.{Empty}
-use Rattle.error.specs.Answers.{NONE, plainAnswer, badTable, refusalOf}
+use Rattle.error.specs.Answers.{NONE, plain_answer, bad_table, refusal_of}
 use Rattle.lookup.specs.declared.Found.{Found}
 use Rattle.lookup.specs.declared.Found.TheVariants.{At, Nothing}
 use Rattle.lookup.specs.Lookup.{entry_key, property_place, property_of, answer_of_pattern, find_in}
@@ -237,23 +237,23 @@ pub record Later (o : Visited) (I I' S S' : List ℕ) (r : Visited) : Type 0 whe
 -- ---- the public entry
 -- 20, 21 node, 21 schema, 22, then the work
 abbrev pub sound_or : Fault → Begun → Begun
-sound_or f rest = on_fault f (λ table n. Answered (badTable table n)) rest
+sound_or f rest = on_fault f (λ table n. Answered (bad_table table n)) rest
 
 unfoldable pub begun_of : Tables → ℕ → ℕ → ℕ → ℕ → Begun
 begun_of T n s i k =
     sound_or (tables_fault T)
     (pick (ltb n (node_count T.nodes))
     (pick (ltb s (schema_count T.schemas))
-    (pick (either (ltb i instance_words) (ltb k schema_step_words)) (Answered (plainAnswer 22)) Visit)
-    (Answered (plainAnswer 21)))
-    (Answered (plainAnswer 21)))
+    (pick (either (ltb i instance_words) (ltb k schema_step_words)) (Answered (plain_answer 22)) Visit)
+    (Answered (plain_answer 21)))
+    (Answered (plain_answer 21)))
 
 -- the answer to what was found, and how many steps its paths have
 abbrev pub answer_to : Visited → Answer
-answer_to Accepted = plainAnswer 0
-answer_to (Refused e) = refusalOf e.number e.node e.schema e.hint e.detail e.steps e.kinds
-answer_to (Invalid n) = refusalOf 14 NONE NONE NONE Empty n 0
-answer_to (Ended n) = plainAnswer n
+answer_to Accepted = plain_answer 0
+answer_to (Refused e) = refusal_of e.number e.node e.schema e.hint e.detail e.steps e.kinds
+answer_to (Invalid n) = refusal_of 14 NONE NONE NONE Empty n 0
+answer_to (Ended n) = plain_answer n
 
 abbrev pub steps_told : Visited → ℕ
 steps_told Accepted = 0

@@ -5,7 +5,7 @@ use Rattle.text.specs.Choice.{either, pick}
 use Rattle.error.specs.declared.Answer.{Answer}
 use Rattle.error.specs.declared.Mode.{Mode}
 use Rattle.error.specs.declared.Detail.TheVariants.{Empty}
-use Rattle.error.specs.Answers.{NONE, plainAnswer, badTable, refusalOf}
+use Rattle.error.specs.Answers.{NONE, plain_answer, bad_table, refusal_of}
 use Rattle.error.specs.Paths.{levels, Step, instance_buffer, schema_buffer}
 use Rattle.layout.specs.Layout.{Tables, node_count, schema_count}
 use Rattle.lookup.specs.Lookup.{find_in, answer_of_pattern}
@@ -42,14 +42,14 @@ abbrev pub empty_handed : Answer → ℕ → ℕ → Validated
 empty_handed a i k = leaving a [] [] i k
 
 abbrev pub answered : Outcome → ℕ → ℕ → Validated
-answered accepted i k = empty_handed (plainAnswer 0) i k
+answered accepted i k = empty_handed (plain_answer 0) i k
 answered (refused e) i k =
-    leaving (refusalOf e.number e.node e.schema e.hint e.detail (length e.steps) (length e.kinds)) e.steps e.kinds i k
-answered (invalid steps) i k = leaving (refusalOf 14 NONE NONE NONE Empty (length steps) 0) steps [] i k
-answered (ended number) i k = empty_handed (plainAnswer number) i k
+    leaving (refusal_of e.number e.node e.schema e.hint e.detail (length e.steps) (length e.kinds)) e.steps e.kinds i k
+answered (invalid steps) i k = leaving (refusal_of 14 NONE NONE NONE Empty (length steps) 0) steps [] i k
+answered (ended number) i k = empty_handed (plain_answer number) i k
 
 abbrev pub checked_first : Fault → ℕ → ℕ → Validated → Validated
-checked_first f i k rest = on_fault f (λ table n. empty_handed (badTable table n) i k) rest
+checked_first f i k rest = on_fault f (λ table n. empty_handed (bad_table table n) i k) rest
 
 -- for buffers of i and k words
 unfoldable pub validate_of : Tables → Mode → ℕ → ℕ → ℕ → ℕ → Validated
@@ -57,7 +57,7 @@ validate_of T mode n s i k =
     checked_first (tables_fault T) i k
     (pick (ltb n (node_count T.nodes))
     (pick (ltb s (schema_count T.schemas))
-    (pick (either (ltb i instance_words) (ltb k schema_step_words)) (empty_handed (plainAnswer 22) i k)
+    (pick (either (ltb i instance_words) (ltb k schema_step_words)) (empty_handed (plain_answer 22) i k)
     (answered (visit_of T mode levels n s) i k))
-    (empty_handed (plainAnswer 21) i k))
-    (empty_handed (plainAnswer 21) i k))
+    (empty_handed (plain_answer 21) i k))
+    (empty_handed (plain_answer 21) i k))
