@@ -1,6 +1,6 @@
 -- Document 01, "A visit": what a schema's own words say of a node, kind by kind, in both modes. `answer` is the way a pattern is
 -- answered. Assumes nothing.
-use Rattle.std.specs.Prelude.{ℕ, zero, suc, ◌+◌, Bool, true, false, not, List, [], ◌∷◌, length, get_or, eqb, ltb, leb, Float}
+use Rattle.std.specs.Prelude.{ℕ, Bool, true, false, not, List, [], ◌∷◌, length, get_or, eqb, ltb, Float}
 use Rattle.std.specs.Float.{nan, binary64}
 use Rattle.std.specs.Float.Ieee.{of_bits}
 use Rattle.text.specs.Choice.{both, either, pick}

@@ -13,8 +13,8 @@ use Rattle.text.proofs.Bytes.{same_sym}
 use Rattle.number.specs.declared.equal.Equality.{Equality}
 use Rattle.layout.specs.Layout.{node_kind, node_a, node_count}
 use Rattle.lookup.specs.Lookup.{key_is}
-use Rattle.json_equality.specs.Json.{Json, on_string, equal_json}
-use Rattle.json_equality.specs.Value.{shape_of, json_of, value_at, value_of, equal_nodes_of}
+use Rattle.json_equality.specs.Json.{on_string, equal_json}
+use Rattle.json_equality.specs.Value.{json_of, value_at, value_of, equal_nodes_of}
 use Rattle.json_equality.proofs.Shapes.{shape_cases}
 use Rattle.json_equality.proofs.Values.{value_string}
 use Rattle.schema.specs.Look.{slice}

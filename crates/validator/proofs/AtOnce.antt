@@ -1,11 +1,11 @@
 -- What is accepted at a glance: a schema without parts, an entry, an object. Assumes nothing.
-use Prim.Native.Nat.{ℕ, suc, ◌+◌, ◌-◌, ◌≤◌, ◌<◌}
+use Prim.Native.Nat.{ℕ, ◌+◌, ◌-◌, ◌≤◌, ◌<◌}
 use mathlib.Core.Path.{◌≡◌, refl, sym, ap, subst, ◌∙◌}
 use mathlib.Core.Bool.{Bool, true, false, true≢false}
 use mathlib.Core.List.{List}
 use native.Mathlib.Omega.{arith}
 use lib.Dec.{eqb, ltb}
-use borrow.Author.Tests.{eq-eqb, ne_eqb, eqb-true, lt-ltb, le-ltb}
+use borrow.Author.Tests.{eq-eqb, ne_eqb, eqb-true}
 use Rattle.text.specs.Choice.{both, either, pick, both_left, both_right}
 use Rattle.error.specs.declared.Mode.{Mode}
 use Rattle.layout.specs.Layout.{Tables, node_kind, node_a, node_b, schema_kind, schema_word, properties_first, properties_count, pair_value}
@@ -13,7 +13,6 @@ use Rattle.lookup.specs.declared.Found.{Found}
 use Rattle.lookup.specs.declared.Found.TheVariants.{At, Nothing}
 use Rattle.lookup.specs.Lookup.{entry_key, entry_value, property_place, property_of, answer_of_pattern}
 use Rattle.judge.specs.declared.Verdict.{Verdict}
-use Rattle.judge.specs.declared.Verdict.TheVariants.{Fine}
 use Rattle.judge.specs.Judge.{is_fine, key_text, keys_verdict, before_entries, number_verdict, string_verdict, enum_verdict}
 use Rattle.schema.specs.Look.{slice, own_words}
 use Rattle.glance.specs.Glance.{Passes, PassesBut}

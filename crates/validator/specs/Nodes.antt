@@ -1,6 +1,6 @@
 -- The nodes of the tables, as the visit sees them. Assumes nothing.
 use Rattle.std.specs.Prelude.{ℕ, zero, suc, ◌+◌, List, [], ◌∷◌, eqb}
-use Rattle.std.proofs.Math.Option.{Option, some, none}
+use Rattle.std.proofs.Math.Option.{some, none}
 use Rattle.text.specs.Choice.{pick}
 use Rattle.text.specs.Text.{same_text}
 use Rattle.error.specs.declared.Mode.{Mode}

@@ -12,7 +12,7 @@ use Rattle.lookup.specs.Lookup.{find_in, answer_of_pattern}
 use Rattle.tables.specs.declared.check.Fault.{Fault}
 use Rattle.tables.specs.Check.{on_fault, tables_fault}
 use Rattle.schema.specs.Look.{words_of, look}
-use Rattle.validator.specs.Outcome.{Error, Outcome, accepted, refused, invalid, ended}
+use Rattle.validator.specs.Outcome.{Outcome, accepted, refused, invalid, ended}
 use Rattle.validator.specs.Visit.{visit_at}
 use Rattle.validator.specs.Nodes.{nodes_of}
 

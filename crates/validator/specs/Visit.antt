@@ -6,7 +6,7 @@ use Rattle.text.specs.Choice.{pick}
 use Rattle.error.specs.declared.Detail.TheVariants.{Property, Key, Reference}
 use Rattle.error.specs.Answers.{NONE}
 use Rattle.judge.specs.declared.Verdict.{Verdict}
-use Rattle.error.specs.Paths.{Step, key_step, item_step}
+use Rattle.error.specs.Paths.{key_step, item_step}
 use Rattle.schema.specs.Shape.{Note, Pair, Own, Object, Shape, plain, any_of, all_of, array, object, ref}
 use Rattle.validator.specs.Outcome.{Error, Outcome, accepted, refused, ended, made, under, place, and_then, any_end, any_step, verdict}
 

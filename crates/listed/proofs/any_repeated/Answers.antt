@@ -1,4 +1,3 @@
-use Prim.Native.Nat.{◌-◌}
 use mathlib.Core.Path.{sym, ◌∙◌, ap}
 use Rattle.schema.proofs.Slices.{slice_begin}
 use Rattle.judge.specs.Judge.{any_repeated}

@@ -1,4 +1,3 @@
-use Prim.Native.Nat.{◌-◌}
 use mathlib.Core.Path.{refl, sym, ◌∙◌}
 use Rattle.listed.proofs.Texts.{text_more, text_stop, text_end}
 use Rattle.listed.proofs.is_text_listed.Goals as goal

@@ -1,4 +1,3 @@
-use Prim.Native.Nat.{◌-◌}
 use mathlib.Core.Path.{refl, sym, ◌∙◌}
 use Rattle.listed.proofs.Lists.{listed_more, listed-stop, listed-end}
 use Rattle.listed.proofs.is_value_listed.Goals as goal

@@ -1,7 +1,6 @@
-use Prim.Native.Nat.{◌-◌}
 use mathlib.Core.Path.{sym, ◌∙◌, ap}
 use Rattle.lookup.proofs.Find.{first_begin, first_more, first_stop, first_end}
-use Rattle.judge.specs.Judge.{is_duplicate, duplicate_wrong, keys_verdict}
+use Rattle.judge.specs.Judge.{duplicate_wrong, keys_verdict}
 use Rattle.objects.proofs.Objects.{duplicate_is}
 use Rattle.objects.proofs.check_keys.Goals as goal
 

@@ -1,4 +1,3 @@
-use Prim.Native.Nat.{◌-◌}
 use mathlib.Core.Path.{sym, ◌∙◌}
 use Rattle.objects.proofs.Objects.{required_begin, required_more, required_stop, required_end}
 use Rattle.objects.proofs.check_required.Goals as goal

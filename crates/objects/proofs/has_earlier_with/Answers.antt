@@ -1,4 +1,3 @@
-use Prim.Native.Nat.{◌-◌}
 use mathlib.Core.Path.{refl, ◌∙◌, ap}
 use Rattle.lookup.specs.Find.{found}
 use Rattle.lookup.proofs.Find.{first_begin, first_more, first_stop, first_end}

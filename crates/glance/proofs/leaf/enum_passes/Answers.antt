@@ -1,4 +1,3 @@
-use Prim.Native.Nat.{◌-◌}
 use Rattle.glance.proofs.Says.{no_verdict}
 use Rattle.glance.proofs.Leaves.{enum_passes}
 use Rattle.glance.proofs.leaf.enum_passes.Goals as goal

@@ -1,4 +1,3 @@
-use Prim.Native.Nat.{◌-◌}
 use native.Mathlib.Omega.{arith}
 use Rattle.glance.proofs.Says.{no_key}
 use Rattle.glance.proofs.Keys.{yes_key}

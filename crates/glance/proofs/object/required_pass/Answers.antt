@@ -1,4 +1,3 @@
-use Prim.Native.Nat.{◌-◌}
 use Rattle.glance.proofs.Says.{no_required}
 use Rattle.glance.proofs.Keys.{asked_begin, asked_more, asked_end}
 use Rattle.glance.proofs.object.required_pass.Goals as goal

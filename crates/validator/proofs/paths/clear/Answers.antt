@@ -1,7 +1,6 @@
 use Rattle.validator.proofs.Ends as ends
 use lib.ListN.{length-set}
 use native.Mathlib.Omega.{arith}
-use Prim.Native.Nat.{◌-◌}
 use mathlib.Core.Path.{refl}
 use Rattle.validator.proofs.paths.clear.Goals as goal
 

@@ -1,4 +1,3 @@
-use Prim.Native.Nat.{◌-◌}
 use Rattle.validator.proofs.AtOnce.{gone_begin, gone_more, gone_ordered, gone_judged, all_nothing}
 use Rattle.validator.proofs.quick.accepts_entries.Goals as goal
 
