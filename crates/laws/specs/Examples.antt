@@ -1,5 +1,5 @@
 -- Document 01, "Worked examples": each row is a schema, a value, a mode and what 01 says of them. Assumes nothing.
-use Rattle.std.specs.Prelude.{ℕ, zero, suc, ◌+◌, List, [], ◌∷◌, ◌++◌, take}
+use Rattle.std.specs.Prelude.{ℕ, zero, suc, List, [], ◌∷◌, ◌++◌, take}
 use Rattle.error.specs.declared.Detail.{Detail}
 use Rattle.error.specs.declared.Detail.TheVariants as detail
 use Rattle.error.specs.declared.Mode.{Mode}
