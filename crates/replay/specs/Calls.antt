@@ -1,5 +1,5 @@
 -- A stored call, run again over the tables of its group: whether what it answers is what is stored, and the place behind it. Assumes nothing.
-use Rattle.std.specs.Prelude.{ℕ, ◌+◌, ◌%◌, ◌^◌, Bool, false, List, ◌==◌, nat_le, nat_lt, slice_index}
+use Rattle.std.specs.Prelude.{ℕ, ◌+◌, ◌%◌, ◌^◌, false, List, ◌==◌, nat_le, nat_lt, slice_index}
 use Rattle.text.specs.Choice.{pick, both, either}
 use Rattle.text.specs.Text.{part_of}
 use Rattle.layout.specs.Layout.{Tables, tables}

@@ -1,0 +1,5 @@
+use Rattle.replay.proofs.Called.{left-run}
+use Rattle.replay.proofs.validation.compare.Goals as goal
+
+pub returns : goal.returns
+returns c = left-run _ _ _ c.after-answer_at.ensures c.word-count.ensures c.word-kinds.ensures c.after-instance_at.ensures c.after.ensures c.after-kinds_at.ensures c.compare-answered.ensures c.wrapping_add_u32.ensures.value c.word.ensures c.compare_path-walked.ensures c.word-length.ensures c.compare_path.ensures c.after-2.ensures
