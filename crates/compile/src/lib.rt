@@ -142,7 +142,7 @@ pub fn compile(
     numbers: &[u64],
     schema: u32,
 ) -> Answer
-    ensures { record { answer = result; notes = notes.exit.now; schemas = schemas.new; links = links.new } ≡ compile_of (tables pool.now texts.now nodes.now notes.entry.now schemas.old registry.now patterns.now links.old numbers.now) (record { notes = used_notes; schemas = used_schemas; links = used_links }) schema }
+    ensures { record { answer = result; notes = notes.new; schemas = schemas.new; links = links.new } ≡ compile_of (tables pool.now texts.now nodes.now notes.old schemas.old registry.now patterns.now links.old numbers.now) (record { notes = used_notes; schemas = used_schemas; links = used_links }) schema }
 {
     let used = Used {
         notes: used_notes,

@@ -6,7 +6,6 @@
 // there are and these, each a place and a word.
 #![tactic(auto)]
 
-use std::alloc::AllocError;
 use stored::report;
 use tables::check::Fault;
 
@@ -266,17 +265,13 @@ fn run_all(text: &[u8], words: &mut [u32], pool: &mut [u8], numbers: &mut [u64])
     report::print(wrong, b" wrong\n");
 }
 
-// Reads the whole input and runs its cases.
-fn run(text: &mut [u8], words: &mut [u32], pool: &mut [u8], numbers: &mut [u64]) {
+fn main() {
+    // In rows, since a check of one long row of 524,288 bytes runs out of stack.
+    let mut rows = [[0u8; 4096]; 128];
+    let mut words = [0u32; 262144];
+    let mut pool = [0u8; 66560];
+    let mut numbers = [0u64; 4608];
+    let text = rows.as_flattened_mut();
     let n = io::read_full(0, text);
-    run_all(&text[..n], words, pool, numbers);
-}
-
-fn main(rt: HostRuntime) -> Result<(), AllocError> {
-    let mut text = vec![in rt.alloc(); 0u8; 524288]?;
-    let mut words = vec![in rt.alloc(); 0u32; 262144]?;
-    let mut pool = vec![in rt.alloc(); 0u8; 66560]?;
-    let mut numbers = vec![in rt.alloc(); 0u64; 4608]?;
-    run(&mut text, &mut words, &mut pool, &mut numbers);
-    Ok(())
+    run_all(&text[..n], &mut words, &mut pool, &mut numbers);
 }
