@@ -1,15 +1,19 @@
 -- What the proofs cite on appending. Assumes nothing.
 use mathlib.Core.Path.{◌≡◌, refl, sym, ap, ◌∙◌}
 use mathlib.Core.Bool.{Bool, true, false}
-use mathlib.Core.List.{List, ◌++◌, append-nil, append_assoc}
-use Prim.Native.Nat.{ℕ, ◌+◌, ◌-◌, ◌<◌, ◌≤◌}
-use native.Mathlib.Numerals.{add-one}
+use mathlib.Core.List.{List, ◌++◌, append_assoc}
+use Prim.Native.Nat.{ℕ, ◌+◌, ◌-◌, ◌<◌, ◌≤◌, min}
 use native.Mathlib.Omega.{arith}
 use borrow.Author.Tests.{lt-leb, le-leb, leb-true}
 use lib.Dec.{leb}
-use lib.ListN.{length, get_or, take, drop, set, replicate, length-replicate, get_or-replicate, drop_of_length-le, length-append, length-drop}
-use lib.Seq.{paste, paste-zero, paste-suc, take-length, take_all, length-take-le, take_at}
-use Rattle.text.specs.Choice.{pick, both-holds, both_fails_left, both_fails_right, both_left, both_right}
+use lib.ListN.{length, take, drop, replicate, length-append, length-drop}
+use borrow.Author.Rules.{rules}
+use borrow.Rule.Slice.PartMut.{put_mid}
+use Rattle.std.proofs.lemmas.Grind.{common_steps}
+use Rattle.std.proofs.lemmas.Slice.{overwrites}
+use lib.Seq.{length-take-le, take_at}
+use mathlib.Core.Logic.{⊎_elim}
+use Rattle.text.specs.Choice.{pick, le_or_lt, both-holds, both_fails_left, both_fails_right, both_left, both_right}
 use Rattle.append.specs.Append.{room, put, Appended, appended, append_of, cleared, Grown}
 
 module _ (limit lent used n : ℕ) where
@@ -47,6 +51,9 @@ module _ (words : List ℕ) (used limit : ℕ) (new : List ℕ) where
 
   pub append_short : length words < used + length new → appended false words ≡ append_of words used limit new
   append_short h = append_no (room_short limit (length words) used (length new) h)
+
+  pub append-over : min limit (length words) < used + length new → appended false words ≡ append_of words used limit new
+  append-over h = ⊎_elim (λ l. append_short (omega arith)) append_full (le_or_lt (used + length new) limit)
 
   -- what was put there
   pub put-grown : used ≤ length words → take (used + length new) (put words used new) ≡ take used words ++ new
@@ -91,43 +98,16 @@ pub grown_of : {limit : ℕ} {words : List ℕ} {used : ℕ} {new words' : List 
 unfolding append_of
 grown_of {limit} {words} {used} {new} {words'} {r} e = grown_by limit words used new words' (room limit (length words) used (length new)) r refl e
 
--- d, with the first k words of s put at at: the invariant of the loops, `w ≡ copied d at s k`
-unfoldable pub copied : List ℕ → ℕ → List ℕ → ℕ → List ℕ
-copied d at s k = paste d at s k
+-- what a copy of s into the part of d from at on leaves, k being how long that part is
+pub put_copied : (d s ys : List ℕ) (at k : ℕ) → ys ≡ s → k ≡ length s → put_mid at k d ys ≡ put d at s
+unfolding put
+put_copied d s ys at k e h = search (rules, overwrites)
 
-module _ (d : List ℕ) (at : ℕ) (s : List ℕ) where
-  pub copy_none : d ≡ copied d at s 0
-  unfolding copied
-  copy_none = paste-zero d at s
+-- what zeros from at on leave
+pub put_zeros : (d ys : List ℕ) (at k : ℕ) → ys ≡ replicate k 0 → k ≡ length d - at → at ≤ length d → put_mid at k d ys ≡ cleared d at
+unfolding cleared
+put_zeros d ys at k e h l = search (rules, overwrites)
 
-  copy_step : (k : ℕ) → at + k < length d → k < length s → set (copied d at s k) (at + k) (get_or s k 0) ≡ copied d at s (k + 1)
-  unfolding copied
-  copy_step k h l = rw (add-one k) (paste-suc d at s k 0 h l)
-
-  pub copy_more : (k : ℕ) (w : List ℕ) → w ≡ copied d at s k → at + k < length d → k < length s → set w (at + k) (get_or s k 0) ≡ copied d at s (k + 1)
-  copy_more k w e h l = rw e (copy_step k h l)
-
-  pub copy_all : (k : ℕ) (w : List ℕ) → w ≡ copied d at s k → k ≡ length s → w ≡ put d at s
-  unfolding copied put
-  copy_all k w e h = e ∙ rw (h, take-length s)
-
--- clearing is a copy of zeros
-abbrev pub zeros : List ℕ → ℕ → List ℕ
-zeros d at = replicate (length d - at) 0
-
-module _ (d : List ℕ) (at k : ℕ) (w : List ℕ) (e : w ≡ copied d at (zeros d at) (k - at)) where
-  pub clear_more : at ≤ k → k < length d → set w k 0 ≡ copied d at (zeros d at) (k + 1 - at)
-  clear_more h l =
-      let p : at + (k - at) ≡ k = omega arith in
-      let q : k + 1 - at ≡ k - at + 1 = omega arith in
-      let m : k - at < length d - at = omega arith in
-      let z : get_or (zeros d at) (k - at) 0 ≡ 0 = get_or-replicate (length d - at) (k - at) 0 0 m in
-      let s = copy_more d at (zeros d at) (k - at) w e (omega arith) (omega (arith, length-replicate {A = ℕ} (length d - at) 0)) in
-      rw q (rw (p, z) at s)
-
-  pub clear_all : k - at ≡ length d - at → w ≡ cleared d at
-  unfolding copied cleared
-  clear_all h =
-      let n : length (zeros d at) ≤ length d - at = omega (arith, length-replicate {A = ℕ} (length d - at) 0) in
-      let l : length d ≤ at + (length d - at) = omega arith in
-      e ∙ rw (h, take_all (length d - at) (zeros d at) n, drop_of_length-le d {i = at + (length d - at)} l) (append-nil _)
+pub none_cleared : (d : List ℕ) (at : ℕ) → length d ≤ at → d ≡ cleared d at
+unfolding cleared
+none_cleared d at h = grind (arith, common_steps)

@@ -8,24 +8,11 @@ ghost use Rattle.append.specs.Append.{appended, append_of, cleared};
 pub fn append(words: &mut [u32], used: usize, limit: usize, new: &[u32]) -> bool
     ensures { appended result words.new ≡ append_of words.old used limit new.now }
 {
-    if limit < used {
+    let room = limit.min(words.len());
+    if used > room || room - used < new.len() {
         return false;
     }
-    if words.len() < used {
-        return false;
-    }
-    let n = new.len();
-    if limit - used < n {
-        return false;
-    }
-    if words.len() - used < n {
-        return false;
-    }
-    let mut k = 0;
-    while k < n {
-        words[used + k] = new[k];
-        k += 1;
-    }
+    words[used..used + new.len()].copy_from_slice(new);
     true
 }
 
@@ -33,9 +20,7 @@ pub fn append(words: &mut [u32], used: usize, limit: usize, new: &[u32]) -> bool
 pub fn clear_from(words: &mut [u32], used: usize)
     ensures { words.new ≡ cleared words.old used }
 {
-    let mut k = used;
-    while k < words.len() {
-        words[k] = 0;
-        k += 1;
+    if used < words.len() {
+        words[used..].fill(0);
     }
 }

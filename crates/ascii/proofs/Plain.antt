@@ -2,41 +2,32 @@
 use mathlib.Core.Path.{◌≡◌, refl, sym, ◌∙◌}
 use mathlib.Core.Bool.{true}
 use mathlib.Core.List.{List, [], ◌∷◌}
-use Prim.Native.Nat.{ℕ, zero, suc, ◌+◌, ◌<◌, ◌≤◌}
-use native.Mathlib.Numerals.{add-one}
+use Prim.Native.Nat.{ℕ, zero, suc, ◌<◌, ◌≤◌, max}
 use native.Mathlib.Omega.{arith}
 use borrow.Author.Tests.{ltb-true, ltb-false, lt-ltb, le-ltb}
-use lib.ListN.{length, take, drop, get_or, drop_of_length-le}
-use lib.Seq.{drop-cons}
+use lib.ListN.{length, take, drop}
 use lib.Dec.{ltb}
-use Rattle.text.specs.Choice.{pick_all}
+use mathlib.Core.Logic.{⊎_elim}
+use Rattle.std.specs.List.{fold}
+use Rattle.text.specs.Choice.{pick_all, le_or_lt}
 use Rattle.text.specs.Text.{fits_in, text_count, text_start, text_length, part_of, text_of}
 use Rattle.text.specs.Utf8.{start, run, utf8_of}
 use Rattle.text.proofs.Octet.{run_ascii}
 use Rattle.ascii.specs.Ascii.{larger_of, largest_from, largest_of, ascii_of}
 
-pub larger_yes : (a b : ℕ) → a < b → b ≡ larger_of a b
+larger_max : (a b : ℕ) → max a b ≡ larger_of a b
 unfolding larger_of
-larger_yes a b h = rw (lt-ltb a b h)
+larger_max a b = ⊎_elim (λ h. rw (le-ltb a b h) (omega arith)) (λ h. rw (lt-ltb a b h) (omega arith)) (le_or_lt b a)
 
-pub larger_no : (a b : ℕ) → b ≤ a → a ≡ larger_of a b
-unfolding larger_of
-larger_no a b h = rw (le-ltb a b h)
+folded : (s : List ℕ) (most : ℕ) → fold max most s ≡ largest_from most s
+unfolding largest_from
+folded [] most = refl
+folded (b ∷ s) most = rw (larger_max most b) (folded s (larger_of most b))
 
--- the loop's invariant is `largest_from most (drop i s) ≡ largest_of s`
-module _ (s : List ℕ) where
-  pub largest_start : largest_from 0 (drop 0 s) ≡ largest_of s
-  unfolding largest_of
-  largest_start = refl
-
-  module _ (i most : ℕ) (inv : largest_from most (drop i s) ≡ largest_of s) where
-    pub largest_more : {m : ℕ} → i < length s → m ≡ larger_of most (get_or s i 0) → largest_from m (drop (i + 1) s) ≡ largest_of s
-    unfolding largest_from
-    largest_more h e = rw (e, add-one i) (rw (drop-cons s i 0 h) at inv)
-
-    pub largest_end : length s ≤ i → most ≡ largest_of s
-    unfolding largest_from
-    largest_end h = rw (drop_of_length-le s {i = i} h) at inv
+-- the code's fold
+pub largest_is : (s : List ℕ) → fold max 0 s ≡ largest_of s
+unfolding largest_of
+largest_is s = folded s 0
 
 pub ascii_is : (s : List ℕ) {most : ℕ} → most ≡ largest_of s → ltb most 0x80 ≡ ascii_of s
 unfolding ascii_of
@@ -79,7 +70,7 @@ plain-take (suc n) (more h p) = more h (plain-take n p)
 -- the walk is where it began after each of them
 plain-run : {s : List ℕ} → Plain s → run start s ≡ start
 plain-run none = refl
-plain-run (more {b} {s} h p) = sym (run_ascii (b ∷ s) 0 (omega arith) (omega arith)) ∙ plain-run p
+plain-run (more {b} {s} h p) = run_ascii b s (omega arith) ∙ plain-run p
 
 plain_utf8 : {s : List ℕ} → Plain s → utf8_of s ≡ true
 unfolding utf8_of

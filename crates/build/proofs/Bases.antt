@@ -4,7 +4,7 @@ use mathlib.Core.Path.{◌≡◌, refl, sym, ap, ◌∙◌}
 use mathlib.Core.Bool.{Bool, true, false}
 use mathlib.Core.List.{List, [], ◌∷◌}
 use native.Mathlib.Omega.{arith}
-use lib.ListN.{length, get_or, take}
+use lib.ListN.{length, get_or, take, drop}
 use lib.Seq.{get_or-take}
 use lib.Dec.{eqb}
 use borrow.Author.Tests.{ne_eqb}
@@ -12,30 +12,30 @@ use Rattle.text.specs.Choice.{both}
 use Rattle.layout.specs.Layout.{schema_word}
 use Rattle.compilation.specs.State.{Source, State, refused, many, source_of, state_of}
 use Rattle.compilation.specs.Table.{field, span, each_over, all_objects, merge_at, derived_at, compile_at, is_built}
-use Rattle.derive.specs.Meets.{Ready, Built}
-use Rattle.build.specs.Meets.{Each}
+use Rattle.derive.specs.Meets.{Told, Ready, Built}
+use Rattle.build.specs.Meets.{ToldMany, Each}
 use Rattle.error.specs.declared.Used.{Used}
-use Rattle.derive.specs.declared.Made.{Made}
-use Rattle.build.specs.declared.Many.{Many}
 use Rattle.put.specs.Chase.{is_fresh, num, next, chase_at, weave_at, top_at}
+use Rattle.std.specs.Prelude.{Result, Ok, Err}
+use Rattle.error.specs.declared.Failure.{Failure}
 use Rattle.put.specs.declared.Lead.{Lead}
-use Rattle.put.specs.declared.Lead.TheVariants.{Leaf, Refuse, Node}
-use Rattle.merge.proofs.Lists.{span-length}
+use Rattle.put.specs.declared.Lead.TheVariants.{Leaf, Node}
+use Rattle.merge.proofs.Lists.{span-length, span_part}
 use Rattle.put.proofs.Weave.{next_most}
 use Rattle.build.proofs.Build.{leaf_sane, outs-many, outs-stop, refused-built}
 
 -- the stack holds all the numbers, or one is a leaf
-module _ (f : ℕ → Lead) where
+module _ (f : ℕ → Result Lead Failure) where
   top-most : (ss : List ℕ) (p : ℕ) → top_at f ss p ≤ p + length ss
   unfolding top_at
   top-most [] p = omega arith
   top-most (s ∷ ss) p = omega (arith, top-most ss (next (is_fresh (f s)) p), next_most (is_fresh (f s)) p)
 
-  fresh_cons : (c : Lead) (ss X : List ℕ) (p : ℕ) → (top_at f ss (p + 1) ≡ p + 1 + length ss → weave_at f ss X (p + 1) ≡ span X (p + 1) 1 (length ss)) → top_at f ss (next (is_fresh c) p) ≡ p + suc (length ss) → num c (get_or X p 0) ∷ weave_at f ss X (next (is_fresh c) p) ≡ get_or X p 0 ∷ span X (p + 1) 1 (length ss)
+  fresh_cons : (c : Result Lead Failure) (ss X : List ℕ) (p : ℕ) → (top_at f ss (p + 1) ≡ p + 1 + length ss → weave_at f ss X (p + 1) ≡ span X (p + 1) 1 (length ss)) → top_at f ss (next (is_fresh c) p) ≡ p + suc (length ss) → num c (get_or X p 0) ∷ weave_at f ss X (next (is_fresh c) p) ≡ get_or X p 0 ∷ span X (p + 1) 1 (length ss)
   unfolding num next
-  fresh_cons (Leaf n) ss X p ih e = absurd (omega (arith, top-most ss p))
-  fresh_cons (Refuse n) ss X p ih e = ap (λ (l : List ℕ). get_or X p 0 ∷ l) (ih (omega arith))
-  fresh_cons (Node t j) ss X p ih e = ap (λ (l : List ℕ). get_or X p 0 ∷ l) (ih (omega arith))
+  fresh_cons (Ok (Leaf n)) ss X p ih e = absurd (omega (arith, top-most ss p))
+  fresh_cons (Err failure) ss X p ih e = ap (λ (l : List ℕ). get_or X p 0 ∷ l) (ih (omega arith))
+  fresh_cons (Ok (Node t j)) ss X p ih e = ap (λ (l : List ℕ). get_or X p 0 ∷ l) (ih (omega arith))
 
   pub fresh_all : (ss X : List ℕ) (p : ℕ) → top_at f ss p ≡ p + length ss → weave_at f ss X p ≡ span X p 1 (length ss)
   unfolding top_at weave_at span
@@ -46,12 +46,12 @@ module _ (f : ℕ → Lead) where
   both_no true b e = e
   both_no false b e = refl
 
-  module _ (S : List ℕ) (leaf : (s n : ℕ) → f s ≡ Leaf n → eqb (schema_word S n 0) 10 ≡ false) where
-    leaf_cons : (c : Lead) (s : ℕ) → f s ≡ c → (ss X : List ℕ) (p : ℕ) → ((top_at f ss (p + 1) ≡ p + 1 + length ss → ⊥) → all_objects S (weave_at f ss X (p + 1)) ≡ false) → (top_at f ss (next (is_fresh c) p) ≡ p + suc (length ss) → ⊥) → both (eqb (schema_word S (num c (get_or X p 0)) 0) 10) (all_objects S (weave_at f ss X (next (is_fresh c) p))) ≡ false
+  module _ (S : List ℕ) (leaf : (s n : ℕ) → f s ≡ Ok (Leaf n) → eqb (schema_word S n 0) 10 ≡ false) where
+    leaf_cons : (c : Result Lead Failure) (s : ℕ) → f s ≡ c → (ss X : List ℕ) (p : ℕ) → ((top_at f ss (p + 1) ≡ p + 1 + length ss → ⊥) → all_objects S (weave_at f ss X (p + 1)) ≡ false) → (top_at f ss (next (is_fresh c) p) ≡ p + suc (length ss) → ⊥) → both (eqb (schema_word S (num c (get_or X p 0)) 0) 10) (all_objects S (weave_at f ss X (next (is_fresh c) p))) ≡ false
     unfolding num next
-    leaf_cons (Leaf n) s g ss X p ih e = rw (leaf s n g)
-    leaf_cons (Refuse n) s g ss X p ih e = both_no (eqb (schema_word S (get_or X p 0) 0) 10) (all_objects S (weave_at f ss X (p + 1))) (ih (λ z. e (omega arith)))
-    leaf_cons (Node t j) s g ss X p ih e = both_no (eqb (schema_word S (get_or X p 0) 0) 10) (all_objects S (weave_at f ss X (p + 1))) (ih (λ z. e (omega arith)))
+    leaf_cons (Ok (Leaf n)) s g ss X p ih e = rw (leaf s n g)
+    leaf_cons (Err failure) s g ss X p ih e = both_no (eqb (schema_word S (get_or X p 0) 0) 10) (all_objects S (weave_at f ss X (p + 1))) (ih (λ z. e (omega arith)))
+    leaf_cons (Ok (Node t j)) s g ss X p ih e = both_no (eqb (schema_word S (get_or X p 0) 0) 10) (all_objects S (weave_at f ss X (p + 1))) (ih (λ z. e (omega arith)))
 
     pub leaf_some : (ss X : List ℕ) (p : ℕ) → (top_at f ss p ≡ p + length ss → ⊥) → all_objects S (weave_at f ss X p) ≡ false
     unfolding top_at weave_at all_objects
@@ -61,7 +61,7 @@ module _ (f : ℕ → Lead) where
 not_ten : (kind : ℕ) → is_built kind ≡ false → kind ≡ 10 → ⊥
 not_ten kind h e = let z : ◌≡◌ {A = Bool} true false = ap is_built (sym e) ∙ h in let y : ◌≡◌ {A = ℕ} 0 1 = cc in omega arith
 
-module _ (P T R : List ℕ) (b u : Used) (N S L X X' : List ℕ) (sp : ℕ) (C : Source) (below s first count : ℕ) (st : State) (m : Many) (ea : Each C (source_of P T R b N S L) below st (span C.links first 1 count) u N S L X X' sp m) (rd : Ready b u X sp) (e14 : first ≡ field C s 14) (e15 : count ≡ field C s 15) where
+module _ (P T R : List ℕ) (b u : Used) (N S L X X' : List ℕ) (sp : ℕ) (C : Source) (below s first count : ℕ) (st : State) (m : ToldMany) (ea : Each C (source_of P T R b N S L) below st (span C.links first 1 count) u N S L X X' sp m) (rd : Ready b u X sp) (e14 : first ≡ field C s 14) (e15 : count ≡ field C s 15) where
   abbrev items : List ℕ
   items = span C.links first 1 count
 
@@ -71,7 +71,7 @@ module _ (P T R : List ℕ) (b u : Used) (N S L X X' : List ℕ) (sp : ℕ) (C :
   abbrev st₁ : State
   st₁ = state_of m.used N S L
 
-  abbrev no_made : ℕ → Made
+  abbrev no_made : ℕ → Told
   no_made k = record { no = k; rec = 0; fresh = false; used = m.used }
 
   pub derived-stop : (m.no ≡ 0 → ⊥) → Built (derived_at C (compile_at C below) st s) C (source_of P T R b N S L) u N S L X X' sp (no_made m.no)
@@ -86,7 +86,7 @@ module _ (P T R : List ℕ) (b u : Used) (N S L X X' : List ℕ) (sp : ℕ) (C :
   state-schemas = refl
 
   -- a leaf is a record of the source, and no object
-  leaf_kind : (t n : ℕ) → chase_at C below t ≡ Leaf n → eqb (schema_word (take (m.used.schemas * 16) S) n 0) 10 ≡ false
+  leaf_kind : (t n : ℕ) → chase_at C below t ≡ Ok (Leaf n) → eqb (schema_word (take (m.used.schemas * 16) S) n 0) 10 ≡ false
   unfolding schema_word
   leaf_kind t n e =
       let h = leaf_sane C below t n e in
@@ -109,14 +109,17 @@ module _ (P T R : List ℕ) (b u : Used) (N S L X X' : List ℕ) (sp : ℕ) (C :
         bad 31 (λ q. omega arith) (rw (many_are z, o))
 
     module _ (h : m.top ≡ sp + count) where
-      ns_are : ns ≡ span X' sp 1 count
-      ns_are = fresh_all (chase_at C below) items X' sp (sym top_is ∙ h ∙ ap (λ (k : ℕ). sp + k) (sym (span-length C.links first 1 count))) ∙ ap (span X' sp 1) (span-length C.links first 1 count)
+      run_is : span X' sp 1 count ≡ take count (drop sp X')
+      run_is = span_part X' sp count (omega (arith, ea.low z, ea.ran.most, ea.ran.long, rd.long))
 
-      pub derived_other : all_objects (take (m.used.schemas * 16) S) (span X' sp 1 count) ≡ false → Built (derived_at C (compile_at C below) st s) C (source_of P T R b N S L) u N S L X X' sp (no_made 31)
+      ns_are : ns ≡ take count (drop sp X')
+      ns_are = fresh_all (chase_at C below) items X' sp (sym top_is ∙ h ∙ ap (λ (k : ℕ). sp + k) (sym (span-length C.links first 1 count))) ∙ ap (span X' sp 1) (span-length C.links first 1 count) ∙ run_is
+
+      pub derived_other : all_objects (take (m.used.schemas * 16) S) (take count (drop sp X')) ≡ false → Built (derived_at C (compile_at C below) st s) C (source_of P T R b N S L) u N S L X X' sp (no_made 31)
       unfolding derived_at
       derived_other o = bad 31 (λ q. omega arith) (rw (many_are z, ns_are, state-schemas, o))
 
-      module _ (o : all_objects (take (m.used.schemas * 16) S) (span X' sp 1 count) ≡ true) where
+      module _ (o : all_objects (take (m.used.schemas * 16) S) (take count (drop sp X')) ≡ true) where
         pub derived-none : count ≡ 0 → Built (derived_at C (compile_at C below) st s) C (source_of P T R b N S L) u N S L X X' sp (no_made 30)
         unfolding derived_at
         derived-none q = bad 30 (λ x. omega arith) (rw (many_are z, ns_are, state-schemas, o, ← e15, q))
@@ -134,16 +137,17 @@ module _ (P T R : List ℕ) (b u : Used) (N S L X X' : List ℕ) (sp : ℕ) (C :
 
         merge_is : (count ≡ 0 → ⊥) → derived_at C (compile_at C below) st s ≡ merge_at C st₁ s (span X' sp 1 count)
         unfolding derived_at
-        merge_is q = rw (many_are z, ns_are, state-schemas, o, ← e15, ne_eqb count 0 q)
+        merge_is q = rw (run_is, many_are z, ns_are, state-schemas, o, ← e15, ne_eqb count 0 q)
 
-        pub derived_join : (count ≡ 0 → ⊥) → (C' : Source) (N' S' L' : List ℕ) (r : Made) → Built (merge_at (source_of P T R b N S L) st₁ s (span X' sp 1 count)) (source_of P T R b N S L) C' m.used N' S' L' X' X' sp r → Built (derived_at C (compile_at C below) st s) C C' u N' S' L' X X' sp r
-        derived_join q C' N' S' L' r bt =
+        pub derived_join : (count ≡ 0 → ⊥) → (C' : Source) (N' S' L' X₂ : List ℕ) (r : Told) → Built (merge_at (source_of P T R b N S L) st₁ s (span X' sp 1 count)) (source_of P T R b N S L) C' m.used N' S' L' X' X₂ sp r → Built (derived_at C (compile_at C below) st s) C C' u N' S' L' X X₂ sp r
+        derived_join q C' N' S' L' X₂ r bt =
             record {
               answer = bt.answer ∙ ap (λ (D : Source). merge_at D st₁ s (span X' sp 1 count)) ea.ran.source ∙ sym (merge_is q);
               ran =
                   record {
                     source = bt.ran.source ∙ ea.ran.source;
-                    stack = ea.ran.stack;
+                    stack = bt.ran.stack ∙ ea.ran.stack;
+                    long = bt.ran.long ∙ ea.ran.long;
                     notes = omega (arith, ea.ran.notes, bt.ran.notes);
                     schemas = omega (arith, ea.ran.schemas, bt.ran.schemas);
                     links = omega (arith, ea.ran.links, bt.ran.links);

@@ -9,14 +9,14 @@ use lib.Dec.{eqb}
 use borrow.Author.Tests.{ne_eqb}
 use Rattle.layout.specs.Layout.{NONE}
 use Rattle.compilation.specs.State.{Source, State, Out, done, many, source_of, state_of}
-use Rattle.derive.specs.Meets.{out_of, Ready, Ran, Built}
-use Rattle.put.specs.Meets.{laid_at, values_at, Laid, LayReady}
-use Rattle.build.specs.Meets.{outs_of, Each, Perhaps}
+use Rattle.derive.specs.Meets.{Told, out_of, Ready, Ran, Built}
+use Rattle.put.specs.Meets.{laid_at, values_at, LayReady}
+use Rattle.build.specs.Meets.{ToldMany, outs_of, Each, Perhaps}
 use Rattle.put.specs.Chase.{chase_at, weave_at, top_at}
 use Rattle.compilation.specs.Table.{field, span, each_over, perhaps_at, plain_at, derived_at, node_at, compile_at}
 use Rattle.error.specs.declared.Used.{Used}
-use Rattle.derive.specs.declared.Made.{Made}
-use Rattle.build.specs.declared.Many.{Many}
+use Rattle.std.specs.Prelude.{Result}
+use Rattle.error.specs.declared.Failure.{Failure}
 use Rattle.put.specs.declared.Lead.{Lead}
 use Rattle.merge.proofs.Lists.{part_same}
 use Rattle.put.proofs.Weave.{top_least, weave_kept}
@@ -28,6 +28,7 @@ ran_then C C₁ C₂ u u₁ u₂ X X₁ X₂ sp top l a b =
     record {
       source = b.source ∙ a.source;
       stack = part_same sp top X₂ X₁ l b.stack ∙ a.stack;
+      long = b.long ∙ a.long;
       notes = omega (arith, a.notes, b.notes);
       schemas = omega (arith, a.schemas, b.schemas);
       links = omega (arith, a.links, b.links);
@@ -46,14 +47,14 @@ ready-then C C₁ b u u₁ X X₁ sp top rd ran l h =
     }
 
 -- the member
-module _ (P T R : List ℕ) (b u : Used) (X : List ℕ) (sp : ℕ) (C : Source) (below s : ℕ) (st : State) (rd : Ready b u X sp) (first count : ℕ) (e2 : first ≡ field C s 2) (e3 : count ≡ field C s 3) (N₁ S₁ L₁ X₁ : List ℕ) (m : Many) (ea : Each C (source_of P T R b N₁ S₁ L₁) below st (span C.links (first + 1) 2 count) u N₁ S₁ L₁ X X₁ sp m) where
+module _ (P T R : List ℕ) (b u : Used) (X : List ℕ) (sp : ℕ) (C : Source) (below s : ℕ) (st : State) (rd : Ready b u X sp) (first count : ℕ) (e2 : first ≡ field C s 2) (e3 : count ≡ field C s 3) (N₁ S₁ L₁ X₁ : List ℕ) (m : ToldMany) (ea : Each C (source_of P T R b N₁ S₁ L₁) below st (span C.links (first + 1) 2 count) u N₁ S₁ L₁ X X₁ sp m) where
   abbrev whole : Out
   whole = plain_at C (compile_at C below) st s
 
   abbrev C₁ : Source
   C₁ = source_of P T R b N₁ S₁ L₁
 
-  abbrev f : ℕ → Lead
+  abbrev f : ℕ → Result Lead Failure
   f = chase_at C below
 
   abbrev properties : List ℕ
@@ -80,7 +81,7 @@ module _ (P T R : List ℕ) (b u : Used) (X : List ℕ) (sp : ℕ) (C : Source) 
     above : sp ≤ m.top
     above = omega (arith, top_is, top_least f properties sp)
 
-    module _ (on patterns : ℕ) (e4 : on ≡ field C s 4) (e5 : patterns ≡ field C s 5) (N₂ S₂ L₂ X₂ : List ℕ) (n : Many) (eb : Each C₁ (source_of P T R b N₂ S₂ L₂) below (state_of m.used N₁ S₁ L₁) (span (take b.links L₁) (on + 1) 2 patterns) m.used N₂ S₂ L₂ X₁ X₂ m.top n) where
+    module _ (on patterns : ℕ) (e4 : on ≡ field C s 4) (e5 : patterns ≡ field C s 5) (N₂ S₂ L₂ X₂ : List ℕ) (n : ToldMany) (eb : Each C₁ (source_of P T R b N₂ S₂ L₂) below (state_of m.used N₁ S₁ L₁) (span (take b.links L₁) (on + 1) 2 patterns) m.used N₂ S₂ L₂ X₁ X₂ m.top n) where
       abbrev C₂ : Source
       C₂ = source_of P T R b N₂ S₂ L₂
 
@@ -117,7 +118,7 @@ module _ (P T R : List ℕ) (b u : Used) (X : List ℕ) (sp : ℕ) (C : Source) 
         over : m.top ≤ n.top
         over = omega (arith, upper_is, top_least f others m.top)
 
-        module _ (item : ℕ) (e6 : item ≡ field C s 6) (N₃ S₃ L₃ X₃ : List ℕ) (a : Made) (pa : Perhaps (perhaps_at (compile_at C₂ below) (state_of n.used N₂ S₂ L₂) item) C₂ (source_of P T R b N₃ S₃ L₃) n.used N₃ S₃ L₃ X₂ X₃ n.top a) where
+        module _ (item : ℕ) (e6 : item ≡ field C s 6) (N₃ S₃ L₃ X₃ : List ℕ) (a : Told) (pa : Perhaps (perhaps_at (compile_at C₂ below) (state_of n.used N₂ S₂ L₂) item) C₂ (source_of P T R b N₃ S₃ L₃) n.used N₃ S₃ L₃ X₂ X₃ n.top a) where
           abbrev C₃ : Source
           C₃ = source_of P T R b N₃ S₃ L₃
 
@@ -140,7 +141,7 @@ module _ (P T R : List ℕ) (b u : Used) (X : List ℕ) (sp : ℕ) (C : Source) 
             additional_done : perhaps_at (compile_at C below) (state_of n.used N₂ S₂ L₂) (field C s 6) ≡ done (state_of a.used N₃ S₃ L₃) a.rec
             additional_done = sym additional_answer ∙ out-done a N₃ S₃ L₃ v
 
-            module _ (name : ℕ) (e12 : name ≡ field C s 12) (N₄ S₄ L₄ X₄ : List ℕ) (d : Made) (pd : Perhaps (perhaps_at (compile_at C₃ below) (state_of a.used N₃ S₃ L₃) name) C₃ (source_of P T R b N₄ S₄ L₄) a.used N₄ S₄ L₄ X₃ X₄ n.top d) where
+            module _ (name : ℕ) (e12 : name ≡ field C s 12) (N₄ S₄ L₄ X₄ : List ℕ) (d : Told) (pd : Perhaps (perhaps_at (compile_at C₃ below) (state_of a.used N₃ S₃ L₃) name) C₃ (source_of P T R b N₄ S₄ L₄) a.used N₄ S₄ L₄ X₃ X₄ n.top d) where
               abbrev C₄ : Source
               C₄ = source_of P T R b N₄ S₄ L₄
 
@@ -184,14 +185,13 @@ module _ (P T R : List ℕ) (b u : Used) (X : List ℕ) (sp : ℕ) (C : Source) 
                 qs_kept : qs ≡ values_at C below s 4 5 X₄ m.top
                 qs_kept = rw (← e4, ← e5) (weave_kept f others X₂ X₄ m.top n.top (omega (arith, upper_is)) (sym upper))
 
-                pub plain_done : (S₅ L₅ : List ℕ) (r : Made) → Laid P T R b d.used below s S₄ S₅ L₄ L₅ X₄ sp m.top a.rec d.rec r → Built whole C (source_of P T R b N₄ S₅ L₅) u N₄ S₅ L₅ X X₄ sp r
-                plain_done S₅ L₅ r laid =
-                    let bt = laid.built N₄ in
+                pub plain_done : (N₅ S₅ L₅ X₅ : List ℕ) (r : Told) → Built (laid_at C₄ (state_of d.used N₄ S₄ L₄) s (values_at C₄ below s 2 3 X₄ sp) (values_at C₄ below s 4 5 X₄ m.top) a.rec d.rec) C₄ (source_of P T R b N₅ S₅ L₅) d.used N₅ S₅ L₅ X₄ X₅ sp r → Built whole C (source_of P T R b N₅ S₅ L₅) u N₅ S₅ L₅ X X₅ sp r
+                plain_done N₅ S₅ L₅ X₅ r bt =
                     let same : laid_at C₄ (state_of d.used N₄ S₄ L₄) s (values_at C₄ below s 2 3 X₄ sp) (values_at C₄ below s 4 5 X₄ m.top) a.rec d.rec ≡ laid_at C (state_of d.used N₄ S₄ L₄) s (values_at C below s 2 3 X₄ sp) (values_at C below s 4 5 X₄ m.top) a.rec d.rec = ap (λ (D : Source). laid_at D (state_of d.used N₄ S₄ L₄) s (values_at D below s 2 3 X₄ sp) (values_at D below s 4 5 X₄ m.top) a.rec d.rec) ran₄.source in
                     let kept : whole ≡ laid_at C (state_of d.used N₄ S₄ L₄) s (values_at C below s 2 3 X₄ sp) (values_at C below s 4 5 X₄ m.top) a.rec d.rec = laid_is ∙ ap (λ (l : List ℕ). laid_at C (state_of d.used N₄ S₄ L₄) s l qs a.rec d.rec) ps_kept ∙ ap (λ (l : List ℕ). laid_at C (state_of d.used N₄ S₄ L₄) s (values_at C below s 2 3 X₄ sp) l a.rec d.rec) qs_kept in
                     record {
                       answer = bt.answer ∙ same ∙ sym kept;
-                      ran = ran_then C C₄ (source_of P T R b N₄ S₅ L₅) u d.used r.used X X₄ X₄ sp sp (omega arith) ran₄ bt.ran;
+                      ran = ran_then C C₄ (source_of P T R b N₅ S₅ L₅) u d.used r.used X X₄ X₅ sp sp (omega arith) ran₄ bt.ran;
                       fresh = bt.fresh;
                       rise = λ q. omega (arith, ran₄.schemas, bt.rise q);
                     }

@@ -2,24 +2,29 @@
 // what is built is appended. The functions call each other; `below` counts the levels that are left.
 #![tactic(auto)]
 
-ghost use Rattle.std.specs.Prelude.{◌≡◌, set, take};
+ghost use Rattle.std.specs.Prelude.{◌≡◌, ◌*◌, ◌≤◌, set, take, drop, eqb, is_ok, IfErr};
 ghost use Rattle.text.specs.Choice.{pick};
+ghost use Rattle.layout.specs.Layout.{NONE, schema_word, schema_words};
+ghost use Rattle.error.specs.declared.Failure.TheVariants.{NoRoom};
 ghost use Rattle.merge.specs.Pairs.{span};
-ghost use Rattle.compilation.specs.State.{source_of, state_of};
-ghost use Rattle.compilation.specs.Table.{compile_at, group_at, array_at, node_at, perhaps_at, derived_at, plain_at};
-ghost use Rattle.derive.specs.Meets.{Ready, Built};
-ghost use Rattle.put.specs.Chase.{next};
-ghost use Rattle.build.specs.Meets.{One, Each, Perhaps, Pushable, EachReady};
+ghost use Rattle.compilation.specs.Table.{compile_at, group_at, array_at, node_at, perhaps_at, derived_at, plain_at, all_objects};
+ghost use Rattle.derive.specs.Meets.{Ready, Builds, SameLent};
+ghost use Rattle.put.specs.Chase.{lead_in, next, weave_at};
+ghost use Rattle.put.specs.Meets.{Listed};
+ghost use Rattle.build.specs.Meets.{Compiles, CompilesEach, CompilesOrNone, Pushable, EachReady};
 
-use derive::{Made, finish, merge_object_schemas};
-use error::Used;
+use derive::run::Run;
+use derive::{Made, Origin, Work, finish, merge_object_schemas};
+use error::{Failure, Used};
 use inherit::objects;
+use layout::kind;
+use layout::rows::list_row;
 use layout::schema::{
     ADDITIONAL, ARRAY_MAXIMUM, ARRAY_MINIMUM, BASES, ITEMS, KIND, LIST, NAMES, NOTE,
     PATTERN_PROPERTIES, PROPERTIES, UNIQUE,
 };
-use layout::words::NONE;
-use merge::{field, word};
+use layout::words::{NONE, SCHEMA_WORDS};
+use merge::{first_words, word, words_from};
 use put::{Lead, PATTERN_COUNT, PROPERTY_COUNT, chase, is_plain, put_list, put_object};
 
 // A list's count stands after its first place.
@@ -27,92 +32,117 @@ const LIST_COUNT: u32 = LIST + 1;
 
 const BASES_COUNT: u32 = BASES + 1;
 
-// What children became: the used counts and the stack's top; or the number of the refusal.
+// What children became: the used counts and the stack's top.
 #[derive(Clone, Copy)]
 pub struct Many {
-    pub no: u32,
     pub used: Used,
     pub top: u32,
 }
 
+// Where a schema leads. Passed on as `&` from behind a `&mut`, a field loses its facts (tried): so in the next two.
+fn lead_of(origin: &Origin, work: &Work, level: u32, s: u32) -> Result<Lead, Failure>
+    ensures { result ≡ lead_in origin.now work.now.schemas.now level s }
+{
+    let us = origin.base.schemas;
+    chase(&origin.texts, origin.registry, work.schemas, us, level, s)
+}
+
+// Whether an object is plain.
+fn has_no_bases(work: &Work, us: u32, s: u32) -> bool
+    ensures { result ≡ eqb (schema_word (take (us * schema_words) work.now.schemas.now) s 14) NONE }
+{
+    is_plain(work.schemas, us, s)
+}
+
+// Appends the numbers of children.
+fn put_numbers(
+    origin: &Origin,
+    work: &Work,
+    links: &mut [u32],
+    below: u32,
+    at: u32,
+    count: u32,
+    ul: u32,
+    sp: u32,
+) -> Result<(), Failure>
+    requires { (origin.now.base.links ≤ ul) × (sp ≤ 4096) }
+    ensures listed { let lead = lead_in origin.now work.now.schemas.now below in
+        let items = span (take origin.now.base.links links.old) at 1 count in
+        Listed links.old links.new ul count (weave_at lead items work.now.stack.now sp)
+        (is_ok result) }
+    ensures full { IfErr result (λ failure. failure ≡ NoRoom) }
+{
+    put_list(
+        origin,
+        work.schemas,
+        work.stack,
+        links,
+        below,
+        at,
+        count,
+        ul,
+        sp,
+    )
+}
+
 // One schema: a leaf is its own answer, a reference is followed, the others are built.
+// `used` and `sp` stand beside the work: each level hands on counts of its own, so a value of both would be taken apart at each call.
+// `Ready` is asked, no type says it: it relates the counts at entry, those now, the stack and its top, and none of them holds the others.
 #[cycle(array_derived_each_group_node_one_perhaps_plain)]
 pub fn one(
-    pool: &[u8],
-    texts: &[u32],
-    registry: &[u32],
-    notes: &mut [u32],
-    schemas: &mut [u32],
+    origin: &Origin,
+    work: &mut Work,
     links: &mut [u32],
-    stack: &mut [u32],
-    base: Used,
     level: u32,
     s: u32,
     used: Used,
     sp: u32,
-) -> Made
-    requires { Ready base used stack.old sp }
-    ensures { One (source_of pool.now texts.now registry.now base notes.old schemas.old links.old) (source_of pool.now texts.now registry.now base notes.new schemas.new links.new) level s (state_of used notes.old schemas.old links.old) used notes.new schemas.new links.new stack.old stack.new sp result }
+) -> Result<Made, Failure>
+    requires { Ready origin.now.base used work.old.stack.now sp }
+    ensures made { Compiles origin.now work.old work.new links.old links.new
+        used sp level s result }
+    ensures lent { SameLent work.old work.new }
 {
-    let us = base.schemas;
-    match chase(pool, texts, registry, schemas, us, level, s) {
-        Lead::Leaf(n) => Made {
-            no: 0,
+    let lead = lead_of(origin, work, level, s)?;
+    match lead {
+        Lead::Leaf(n) => Ok(Made {
             rec: n,
             fresh: false,
             used,
-        },
-        Lead::Refuse(no) => Made {
-            no,
-            rec: 0,
-            fresh: false,
-            used,
-        },
-        Lead::Node(t, left) => node(
-            pool, texts, registry, notes, schemas, links, stack, base, left, t, used, sp,
-        ),
+        }),
+        Lead::Node { schema, below } => node(origin, work, links, below, schema, used, sp),
     }
 }
 
 // A record that is built anew.
 #[cycle(array_derived_each_group_node_one_perhaps_plain)]
 fn node(
-    pool: &[u8],
-    texts: &[u32],
-    registry: &[u32],
-    notes: &mut [u32],
-    schemas: &mut [u32],
+    origin: &Origin,
+    work: &mut Work,
     links: &mut [u32],
-    stack: &mut [u32],
-    base: Used,
     below: u32,
     s: u32,
     used: Used,
     sp: u32,
-) -> Made
-    requires { Ready base used stack.old sp }
-    ensures { Built (node_at (source_of pool.now texts.now registry.now base notes.old schemas.old links.old) (compile_at (source_of pool.now texts.now registry.now base notes.old schemas.old links.old) below) (state_of used notes.old schemas.old links.old) s) (source_of pool.now texts.now registry.now base notes.old schemas.old links.old) (source_of pool.now texts.now registry.now base notes.new schemas.new links.new) used notes.new schemas.new links.new stack.old stack.new sp result }
+) -> Result<Made, Failure>
+    requires { Ready origin.now.base used work.old.stack.now sp }
+    ensures made { Builds origin.now work.old work.new links.old links.new used sp
+        (λ C st. node_at C (compile_at C below) st s)
+        result }
+    ensures lent { SameLent work.old work.new }
 {
-    let us = base.schemas;
-    let kind = field(schemas, us, s, KIND);
-    if kind == 9 {
-        return array(
-            pool, texts, registry, notes, schemas, links, stack, base, below, s, used, sp,
-        );
+    let us = origin.base.schemas;
+    let kind = work.field(us, s, KIND);
+    if kind == kind::ARRAY {
+        return array(origin, work, links, below, s, used, sp);
     }
-    if kind == 10 {
-        if is_plain(schemas, us, s) {
-            return plain(
-                pool, texts, registry, notes, schemas, links, stack, base, below, s, used, sp,
-            );
+    if kind == kind::OBJECT {
+        if has_no_bases(work, us, s) {
+            return plain(origin, work, links, below, s, used, sp);
         }
-        return derived(
-            pool, texts, registry, notes, schemas, links, stack, base, below, s, used, sp,
-        );
+        return derived(origin, work, links, below, s, used, sp);
     }
-    group(
-        pool, texts, registry, notes, schemas, links, stack, base, below, s, used, sp,
-    )
+    group(origin, work, links, below, s, used, sp)
 }
 
 // Puts a new record's number on the stack.
@@ -121,8 +151,7 @@ fn push(stack: &mut [u32], top: u32, fresh: bool, n: u32) -> u32
     ensures { (result ≡ next fresh top) × (stack.new ≡ pick fresh (set stack.old top n) stack.old) }
 {
     if fresh {
-        let i = top as usize;
-        stack[i] = n;
+        stack[top as usize] = n;
         return top + 1;
     }
     top
@@ -131,383 +160,243 @@ fn push(stack: &mut [u32], top: u32, fresh: bool, n: u32) -> u32
 // Children in order. The numbers of those that are built stay on the stack.
 #[cycle(array_derived_each_group_node_one_perhaps_plain)]
 fn each(
-    pool: &[u8],
-    texts: &[u32],
-    registry: &[u32],
-    notes: &mut [u32],
-    schemas: &mut [u32],
+    origin: &Origin,
+    work: &mut Work,
     links: &mut [u32],
-    stack: &mut [u32],
-    base: Used,
     below: u32,
     at: usize,
     step: u32,
     count: u32,
     used: Used,
     sp: u32,
-) -> Many
-    requires { EachReady base used stack.old sp at step }
-    ensures { Each (source_of pool.now texts.now registry.now base notes.old schemas.old links.old) (source_of pool.now texts.now registry.now base notes.new schemas.new links.new) below (state_of used notes.old schemas.old links.old) (span (take base.links links.old) at step count) used notes.new schemas.new links.new stack.old stack.new sp result }
+) -> Result<Many, Failure>
+    requires { EachReady origin.now.base used work.old.stack.now sp at step }
+    ensures made { let items = span (take origin.now.base.links links.old) at step count in
+        CompilesEach origin.now work.old work.new links.old links.new used sp below items result }
+    ensures lent { SameLent work.old work.new }
 {
-    let lb = base.links as usize;
-    let mut i: u32 = 0;
+    let lb = origin.base.links as usize;
     let mut q = at;
     let mut u = used;
     let mut top = sp;
-    while i < count {
+    for i in 0..count {
         let s = word(links, lb, q);
-        let a = one(
-            pool, texts, registry, notes, schemas, links, stack, base, below, s, u, top,
-        );
-        if a.no != 0 {
-            return Many {
-                no: a.no,
-                used: u,
-                top,
-            };
-        }
-        top = push(stack, top, a.fresh, a.rec);
-        let v = a.used;
-        u = v;
+        let a = one(origin, work, links, below, s, u, top)?;
+        top = push(work.stack, top, a.fresh, a.rec);
+        u = a.used;
         q += step as usize;
-        i += 1;
     }
-    Many {
-        no: 0,
-        used: u,
-        top,
-    }
+    Ok(Many { used: u, top })
 }
 
 // anyOf and allOf.
 #[cycle(array_derived_each_group_node_one_perhaps_plain)]
 fn group(
-    pool: &[u8],
-    texts: &[u32],
-    registry: &[u32],
-    notes: &mut [u32],
-    schemas: &mut [u32],
+    origin: &Origin,
+    work: &mut Work,
     links: &mut [u32],
-    stack: &mut [u32],
-    base: Used,
     below: u32,
     s: u32,
     used: Used,
     sp: u32,
-) -> Made
-    requires { Ready base used stack.old sp }
-    ensures { Built (group_at (source_of pool.now texts.now registry.now base notes.old schemas.old links.old) (compile_at (source_of pool.now texts.now registry.now base notes.old schemas.old links.old) below) (state_of used notes.old schemas.old links.old) s) (source_of pool.now texts.now registry.now base notes.old schemas.old links.old) (source_of pool.now texts.now registry.now base notes.new schemas.new links.new) used notes.new schemas.new links.new stack.old stack.new sp result }
+) -> Result<Made, Failure>
+    requires { Ready origin.now.base used work.old.stack.now sp }
+    ensures made { Builds origin.now work.old work.new links.old links.new used sp
+        (λ C st. group_at C (compile_at C below) st s)
+        result }
+    ensures lent { SameLent work.old work.new }
 {
-    let us = base.schemas;
-    let kind = field(schemas, us, s, KIND);
-    let note = field(schemas, us, s, NOTE);
-    let first = field(schemas, us, s, LIST);
-    let count = field(schemas, us, s, LIST_COUNT);
+    let us = origin.base.schemas;
+    let kind = work.field(us, s, KIND);
+    let note = work.field(us, s, NOTE);
+    let first = work.field(us, s, LIST);
+    let count = work.field(us, s, LIST_COUNT);
     let a = each(
-        pool,
-        texts,
-        registry,
-        notes,
-        schemas,
+        origin,
+        work,
         links,
-        stack,
-        base,
         below,
         first as usize,
         1,
         count,
         used,
         sp,
-    );
+    )?;
     let u = a.used;
-    if a.no != 0 {
-        return Made {
-            no: a.no,
-            rec: 0,
-            fresh: false,
-            used: u,
-        };
-    }
     let ul = u.links;
-    if put_list(
-        pool, texts, registry, schemas, links, stack, base, below, first, count, ul, sp,
-    ) {
-        let v = Used {
-            notes: u.notes,
-            schemas: u.schemas,
-            links: ul + count,
-        };
-        let rec = [kind, note, ul, count, 0, 0, 0, 0, 0, 0, 0, 0, 0, 0, 0, 0];
-        return finish(schemas, v, rec);
-    }
-    Made {
-        no: 33,
-        rec: 0,
-        fresh: false,
-        used: u,
-    }
+    put_numbers(origin, work, links, below, first, count, ul, sp)?;
+    let v = Used {
+        links: ul + count,
+        ..u
+    };
+    let rec = list_row(kind, note, ul, count);
+    finish(work.schemas, v, rec)
+}
+
+// Whether the records that a run of the stack names are objects.
+fn are_objects(work: &Work, us: u32, run: Run) -> bool
+    ensures { let records = take (us * schema_words) work.now.schemas.now in
+        result ≡ all_objects records (take run.count (drop run.from work.now.stack.now)) }
+{
+    objects(
+        first_words(work.schemas, (us as usize) * SCHEMA_WORDS),
+        words_from(work.stack, run.from as usize, run.count as usize),
+    )
 }
 
 // An object with bases.
 #[cycle(array_derived_each_group_node_one_perhaps_plain)]
 fn derived(
-    pool: &[u8],
-    texts: &[u32],
-    registry: &[u32],
-    notes: &mut [u32],
-    schemas: &mut [u32],
+    origin: &Origin,
+    work: &mut Work,
     links: &mut [u32],
-    stack: &mut [u32],
-    base: Used,
     below: u32,
     s: u32,
     used: Used,
     sp: u32,
-) -> Made
-    requires { Ready base used stack.old sp }
-    ensures { Built (derived_at (source_of pool.now texts.now registry.now base notes.old schemas.old links.old) (compile_at (source_of pool.now texts.now registry.now base notes.old schemas.old links.old) below) (state_of used notes.old schemas.old links.old) s) (source_of pool.now texts.now registry.now base notes.old schemas.old links.old) (source_of pool.now texts.now registry.now base notes.new schemas.new links.new) used notes.new schemas.new links.new stack.old stack.new sp result }
+) -> Result<Made, Failure>
+    requires { Ready origin.now.base used work.old.stack.now sp }
+    ensures made { Builds origin.now work.old work.new links.old links.new used sp
+        (λ C st. derived_at C (compile_at C below) st s)
+        result }
+    ensures lent { SameLent work.old work.new }
 {
-    let us = base.schemas;
-    let first = field(schemas, us, s, BASES);
-    let count = field(schemas, us, s, BASES_COUNT);
+    let us = origin.base.schemas;
+    let first = work.field(us, s, BASES);
+    let count = work.field(us, s, BASES_COUNT);
     let a = each(
-        pool,
-        texts,
-        registry,
-        notes,
-        schemas,
+        origin,
+        work,
         links,
-        stack,
-        base,
         below,
         first as usize,
         1,
         count,
         used,
         sp,
-    );
+    )?;
     let u = a.used;
-    if a.no != 0 {
-        return Made {
-            no: a.no,
-            rec: 0,
-            fresh: false,
-            used: u,
-        };
-    }
     let top = a.top as usize;
     let want = (sp as usize) + (count as usize);
     if top != want {
-        return Made {
-            no: 31,
-            rec: 0,
-            fresh: false,
-            used: u,
-        };
+        return Err(Failure::BaseNotObject);
     }
-    let now = u.schemas;
-    if !objects(schemas, stack, now, sp, count) {
-        return Made {
-            no: 31,
-            rec: 0,
-            fresh: false,
-            used: u,
-        };
+    let run = Run { from: sp, count };
+    if !are_objects(work, u.schemas, run) {
+        return Err(Failure::BaseNotObject);
     }
     if count == 0 {
-        return Made {
-            no: 30,
-            rec: 0,
-            fresh: false,
-            used: u,
-        };
+        return Err(Failure::NoBases);
     }
-    merge_object_schemas(
-        pool, texts, registry, notes, schemas, links, stack, base, s, u, sp, count,
-    )
+    merge_object_schemas(origin, work, links, s, u, run)
 }
 
 // A plain object: its children in order, each list's numbers on the stack above those of the list before it.
 #[cycle(array_derived_each_group_node_one_perhaps_plain)]
 fn plain(
-    pool: &[u8],
-    texts: &[u32],
-    registry: &[u32],
-    notes: &mut [u32],
-    schemas: &mut [u32],
+    origin: &Origin,
+    work: &mut Work,
     links: &mut [u32],
-    stack: &mut [u32],
-    base: Used,
     below: u32,
     s: u32,
     used: Used,
     sp: u32,
-) -> Made
-    requires { Ready base used stack.old sp }
-    ensures { Built (plain_at (source_of pool.now texts.now registry.now base notes.old schemas.old links.old) (compile_at (source_of pool.now texts.now registry.now base notes.old schemas.old links.old) below) (state_of used notes.old schemas.old links.old) s) (source_of pool.now texts.now registry.now base notes.old schemas.old links.old) (source_of pool.now texts.now registry.now base notes.new schemas.new links.new) used notes.new schemas.new links.new stack.old stack.new sp result }
+) -> Result<Made, Failure>
+    requires { Ready origin.now.base used work.old.stack.now sp }
+    ensures made { Builds origin.now work.old work.new links.old links.new used sp
+        (λ C st. plain_at C (compile_at C below) st s)
+        result }
+    ensures lent { SameLent work.old work.new }
 {
-    let us = base.schemas;
-    let first = field(schemas, us, s, PROPERTIES);
-    let count = field(schemas, us, s, PROPERTY_COUNT);
-    let on = field(schemas, us, s, PATTERN_PROPERTIES);
-    let patterns = field(schemas, us, s, PATTERN_COUNT);
-    let item = field(schemas, us, s, ADDITIONAL);
-    let name = field(schemas, us, s, NAMES);
+    let us = origin.base.schemas;
+    let first = work.field(us, s, PROPERTIES);
+    let count = work.field(us, s, PROPERTY_COUNT);
+    let on = work.field(us, s, PATTERN_PROPERTIES);
+    let patterns = work.field(us, s, PATTERN_COUNT);
+    let item = work.field(us, s, ADDITIONAL);
+    let name = work.field(us, s, NAMES);
     let a = each(
-        pool,
-        texts,
-        registry,
-        notes,
-        schemas,
+        origin,
+        work,
         links,
-        stack,
-        base,
         below,
         (first as usize) + 1,
         2,
         count,
         used,
         sp,
-    );
-    let u = a.used;
-    if a.no != 0 {
-        return Made {
-            no: a.no,
-            rec: 0,
-            fresh: false,
-            used: u,
-        };
-    }
-    let mid = a.top;
+    )?;
     let b = each(
-        pool,
-        texts,
-        registry,
-        notes,
-        schemas,
+        origin,
+        work,
         links,
-        stack,
-        base,
         below,
         (on as usize) + 1,
         2,
         patterns,
-        u,
-        mid,
-    );
-    let v = b.used;
-    if b.no != 0 {
-        return Made {
-            no: b.no,
-            rec: 0,
-            fresh: false,
-            used: v,
-        };
-    }
-    let top = b.top;
-    let c = perhaps(
-        pool, texts, registry, notes, schemas, links, stack, base, below, item, v, top,
-    );
-    let w = c.used;
-    if c.no != 0 {
-        return Made {
-            no: c.no,
-            rec: 0,
-            fresh: false,
-            used: w,
-        };
-    }
-    let additional = c.rec;
-    let d = perhaps(
-        pool, texts, registry, notes, schemas, links, stack, base, below, name, w, top,
-    );
-    let x = d.used;
-    if d.no != 0 {
-        return Made {
-            no: d.no,
-            rec: 0,
-            fresh: false,
-            used: x,
-        };
-    }
-    let names = d.rec;
+        a.used,
+        a.top,
+    )?;
+    let c = perhaps(origin, work, links, below, item, b.used, b.top)?;
+    let d = perhaps(origin, work, links, below, name, c.used, b.top)?;
     put_object(
-        pool, texts, registry, schemas, links, stack, base, below, s, x, sp, mid, additional, names,
+        origin, work, links, below, s, d.used, sp, a.top, c.rec, d.rec,
     )
 }
 
 // A schema that may be absent.
 #[cycle(array_derived_each_group_node_one_perhaps_plain)]
 fn perhaps(
-    pool: &[u8],
-    texts: &[u32],
-    registry: &[u32],
-    notes: &mut [u32],
-    schemas: &mut [u32],
+    origin: &Origin,
+    work: &mut Work,
     links: &mut [u32],
-    stack: &mut [u32],
-    base: Used,
     level: u32,
     s: u32,
     used: Used,
     sp: u32,
-) -> Made
-    requires { Ready base used stack.old sp }
-    ensures { Perhaps (perhaps_at (compile_at (source_of pool.now texts.now registry.now base notes.old schemas.old links.old) level) (state_of used notes.old schemas.old links.old) s) (source_of pool.now texts.now registry.now base notes.old schemas.old links.old) (source_of pool.now texts.now registry.now base notes.new schemas.new links.new) used notes.new schemas.new links.new stack.old stack.new sp result }
+) -> Result<Made, Failure>
+    requires { Ready origin.now.base used work.old.stack.now sp }
+    ensures made { CompilesOrNone origin.now work.old work.new links.old links.new used sp
+        (λ C st. perhaps_at (compile_at C level) st s)
+        result }
+    ensures lent { SameLent work.old work.new }
 {
     if s == NONE {
-        return Made {
-            no: 0,
+        return Ok(Made {
             rec: s,
             fresh: false,
             used,
-        };
+        });
     }
-    one(
-        pool, texts, registry, notes, schemas, links, stack, base, level, s, used, sp,
-    )
+    one(origin, work, links, level, s, used, sp)
 }
 
 #[cycle(array_derived_each_group_node_one_perhaps_plain)]
 fn array(
-    pool: &[u8],
-    texts: &[u32],
-    registry: &[u32],
-    notes: &mut [u32],
-    schemas: &mut [u32],
+    origin: &Origin,
+    work: &mut Work,
     links: &mut [u32],
-    stack: &mut [u32],
-    base: Used,
     below: u32,
     s: u32,
     used: Used,
     sp: u32,
-) -> Made
-    requires { Ready base used stack.old sp }
-    ensures { Built (array_at (source_of pool.now texts.now registry.now base notes.old schemas.old links.old) (compile_at (source_of pool.now texts.now registry.now base notes.old schemas.old links.old) below) (state_of used notes.old schemas.old links.old) s) (source_of pool.now texts.now registry.now base notes.old schemas.old links.old) (source_of pool.now texts.now registry.now base notes.new schemas.new links.new) used notes.new schemas.new links.new stack.old stack.new sp result }
+) -> Result<Made, Failure>
+    requires { Ready origin.now.base used work.old.stack.now sp }
+    ensures made { Builds origin.now work.old work.new links.old links.new used sp
+        (λ C st. array_at C (compile_at C below) st s)
+        result }
+    ensures lent { SameLent work.old work.new }
 {
-    let us = base.schemas;
-    let kind = field(schemas, us, s, KIND);
-    let note = field(schemas, us, s, NOTE);
-    let items = field(schemas, us, s, ITEMS);
-    let least = field(schemas, us, s, ARRAY_MINIMUM);
-    let most = field(schemas, us, s, ARRAY_MAXIMUM);
-    let unique = field(schemas, us, s, UNIQUE);
-    let a = perhaps(
-        pool, texts, registry, notes, schemas, links, stack, base, below, items, used, sp,
-    );
-    let u = a.used;
-    if a.no != 0 {
-        return Made {
-            no: a.no,
-            rec: 0,
-            fresh: false,
-            used: u,
-        };
-    }
-    let made = a.rec;
+    let us = origin.base.schemas;
+    let kind = work.field(us, s, KIND);
+    let note = work.field(us, s, NOTE);
+    let items = work.field(us, s, ITEMS);
+    let least = work.field(us, s, ARRAY_MINIMUM);
+    let most = work.field(us, s, ARRAY_MAXIMUM);
+    let unique = work.field(us, s, UNIQUE);
+    let a = perhaps(origin, work, links, below, items, used, sp)?;
     let rec = [
-        kind, note, made, least, most, unique, 0, 0, 0, 0, 0, 0, 0, 0, 0, 0,
+        kind, note, a.rec, least, most, unique, 0, 0, 0, 0, 0, 0, 0, 0, 0, 0,
     ];
-    finish(schemas, u, rec)
+    finish(work.schemas, a.used, rec)
 }

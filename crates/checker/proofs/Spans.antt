@@ -8,7 +8,7 @@ use native.Mathlib.Omega.{arith}
 use lib.ListN.{length}
 use Rattle.text.specs.Choice.{true_or_false, pick_yes, pick_no}
 use Rattle.text.specs.Text.{text_start, text_length, text_fits, part_of, text_of}
-use Rattle.text.proofs.Texts.{fits_within, part_none, text_part, text_out}
+use Rattle.text.proofs.Parts.{fits_within, part_none, text_part, text_out}
 use Rattle.checker.specs.declared.span.Span.{Span}
 use Rattle.checker.specs.Span.{span_at, span_of}
 

@@ -61,55 +61,60 @@ fn reals(kind: u32, value: f64, bound: f64) -> Parts
     }
 }
 
-fn range_parts(range: Range) -> Parts
-    ensures { result ≡ range_parts range }
-{
-    match range {
-        Range::BelowMinimum(value, bound) => reals(8, value, bound),
-        Range::AboveMaximum(value, bound) => reals(9, value, bound),
-        Range::AtOrBelowExclusiveMinimum(value, bound) => reals(10, value, bound),
-        Range::AtOrAboveExclusiveMaximum(value, bound) => reals(11, value, bound),
+impl From<Range> for Parts {
+    ghost from_gives = { λ range parts. parts ≡ range_parts range };
+
+    fn from(range: Range) -> Parts {
+        match range {
+            Range::BelowMinimum(value, bound) => reals(8, value, bound),
+            Range::AboveMaximum(value, bound) => reals(9, value, bound),
+            Range::AtOrBelowExclusiveMinimum(value, bound) => reals(10, value, bound),
+            Range::AtOrAboveExclusiveMaximum(value, bound) => reals(11, value, bound),
+        }
     }
 }
 
-fn detail_parts(detail: Detail) -> Parts
-    ensures { result ≡ parts_of detail }
-{
-    match detail {
-        Detail::Empty => words(0, NONE, NONE),
-        Detail::Types { expected, found } => words(1, expected, found),
-        Detail::Property { text, schema } => words(2, text, schema),
-        Detail::Key(text) => words(3, text, NONE),
-        Detail::Count { count, limit } => words(4, count, limit),
-        Detail::Multiple(value, multiple) => reals(5, value, multiple),
-        Detail::Pattern { subject, pattern } => words(6, subject, pattern),
-        Detail::Reference(text) => words(7, text, NONE),
-        Detail::OutOfRange(range) => range_parts(range),
+impl From<Detail> for Parts {
+    ghost from_gives = { λ detail parts. parts ≡ parts_of detail };
+
+    fn from(detail: Detail) -> Parts {
+        match detail {
+            Detail::Empty => words(0, NONE, NONE),
+            Detail::Types { expected, found } => words(1, expected, found),
+            Detail::Property { text, schema } => words(2, text, schema),
+            Detail::Key(text) => words(3, text, NONE),
+            Detail::Count { count, limit } => words(4, count, limit),
+            Detail::Multiple(value, multiple) => reals(5, value, multiple),
+            Detail::Pattern { subject, pattern } => words(6, subject, pattern),
+            Detail::Reference(text) => words(7, text, NONE),
+            Detail::OutOfRange(range) => Parts::from(range),
+        }
     }
 }
 
-pub fn flatten(answer: Answer) -> Flat
-    ensures { result ≡ flat_of answer }
-{
-    let detail = answer.detail;
-    let used = answer.used;
-    let parts = detail_parts(detail);
-    Flat {
-        number: answer.number,
-        table: answer.table,
-        place: answer.place,
-        node: answer.node,
-        schema: answer.schema,
-        hint: answer.hint,
-        detail: parts.kind,
-        a: parts.a,
-        b: parts.b,
-        steps: answer.steps,
-        kinds: answer.kinds,
-        notes: used.notes,
-        schemas: used.schemas,
-        links: used.links,
-        value: parts.value,
-        bound: parts.bound,
+impl From<Answer> for Flat {
+    ghost from_gives = { λ answer flat. flat ≡ flat_of answer };
+
+    fn from(answer: Answer) -> Flat {
+        let used = answer.used;
+        let parts = Parts::from(answer.detail);
+        Flat {
+            number: answer.number,
+            table: answer.table,
+            place: answer.place,
+            node: answer.node,
+            schema: answer.schema,
+            hint: answer.hint,
+            detail: parts.kind,
+            a: parts.a,
+            b: parts.b,
+            steps: answer.steps,
+            kinds: answer.kinds,
+            notes: used.notes,
+            schemas: used.schemas,
+            links: used.links,
+            value: parts.value,
+            bound: parts.bound,
+        }
     }
 }

@@ -2,6 +2,8 @@
 ghost use Rattle.std.specs.Prelude.{◌≡◌};
 ghost use Rattle.checker.specs.Span.{span_of};
 
+use text::Texts;
+
 #[repr(C)]
 #[derive(Clone, Copy)]
 pub struct Span {
@@ -9,14 +11,14 @@ pub struct Span {
     pub size: usize,
 }
 
-pub fn text_span(pool: &[u8], texts: &[u32], n: u32) -> Span
-    ensures { result ≡ span_of pool.now texts.now n }
+pub fn text_span(texts: &Texts, n: u32) -> Span
+    ensures { result ≡ span_of texts.now.pool.now texts.now.records.now n }
 {
     let i = n as usize;
-    if text::text_fits(pool, texts, i) {
+    if texts.fits(i) {
         return Span {
-            start: text::text_start(texts, i),
-            size: text::text_length(texts, i),
+            start: texts.start(i),
+            size: texts.length(i),
         };
     }
     Span { start: 0, size: 0 }

@@ -1,4 +1,5 @@
-// The C boundary: each export calls the function of its name in `checker`. include/quarto_yaml.h is its other side.
+// The C boundary: each export calls the function of its name in `checker`. include/quarto_yaml.h is its other side. The nine tables
+// come as slices, as that interface lends them, and are one value from here on.
 #![tactic(auto)]
 
 ghost use Rattle.std.specs.Prelude.{◌≡◌, length};
@@ -14,6 +15,8 @@ ghost use Rattle.error.specs.declared.Mode.TheVariants as mode_of;
 
 use checker::flat::Flat;
 use checker::span::Span;
+use layout::Tables;
+use text::Texts;
 
 #[unsafe(no_mangle)]
 pub extern "C" fn qy_navigate(
@@ -30,19 +33,25 @@ pub extern "C" fn qy_navigate(
     path: &[u32],
     key_wanted: bool,
 ) -> Flat
-    ensures { result ≡ flat_of (navigate_of (tables pool.now texts.now nodes.now notes.now schemas.now registry.now patterns.now links.now numbers.now) node path.now key_wanted) }
+    ensures { let T = tables pool.now texts.now nodes.now notes.now schemas.now
+        registry.now patterns.now links.now numbers.now in
+        result ≡ flat_of (navigate_of T node path.now key_wanted) }
 {
-    checker::qy_navigate(
-        pool, texts, nodes, notes, schemas, registry, patterns, links, numbers, node, path,
-        key_wanted,
-    )
+    let tables = Tables::new(
+        pool, texts, nodes, notes, schemas, registry, patterns, links, numbers,
+    );
+    checker::qy_navigate(&tables, node, path, key_wanted)
 }
 
 #[unsafe(no_mangle)]
 pub extern "C" fn qy_text(pool: &[u8], texts: &[u32], n: u32) -> Span
     ensures { result ≡ span_of pool.now texts.now n }
 {
-    checker::qy_text(pool, texts, n)
+    let texts = Texts {
+        pool,
+        records: texts,
+    };
+    checker::qy_text(&texts, n)
 }
 
 // A value against a schema; no mode means source mode.
@@ -62,12 +71,15 @@ pub extern "C" fn qy_validate(
     instance: &mut [u32],
     steps: &mut [u32],
 ) -> Flat
-    ensures { record { answer = result; instance = instance.new; schema = steps.new } ≡ left_of (validate_of (tables pool.now texts.now nodes.now notes.now schemas.now registry.now patterns.now links.now numbers.now) mode_of.Source node schema (length instance.old) (length steps.old)) }
+    ensures { let T = tables pool.now texts.now nodes.now notes.now schemas.now
+        registry.now patterns.now links.now numbers.now in
+        record { answer = result; instance = instance.new; schema = steps.new } ≡
+        left_of (validate_of T mode_of.Source node schema (length instance.old) (length steps.old)) }
 {
-    checker::qy_validate(
-        pool, texts, nodes, notes, schemas, registry, patterns, links, numbers, node, schema,
-        instance, steps,
-    )
+    let tables = Tables::new(
+        pool, texts, nodes, notes, schemas, registry, patterns, links, numbers,
+    );
+    checker::qy_validate(&tables, node, schema, instance, steps)
 }
 
 // The same, in source mode by name.
@@ -87,12 +99,15 @@ pub extern "C" fn qy_validate_source(
     instance: &mut [u32],
     steps: &mut [u32],
 ) -> Flat
-    ensures { record { answer = result; instance = instance.new; schema = steps.new } ≡ left_of (validate_of (tables pool.now texts.now nodes.now notes.now schemas.now registry.now patterns.now links.now numbers.now) mode_of.Source node schema (length instance.old) (length steps.old)) }
+    ensures { let T = tables pool.now texts.now nodes.now notes.now schemas.now
+        registry.now patterns.now links.now numbers.now in
+        record { answer = result; instance = instance.new; schema = steps.new } ≡
+        left_of (validate_of T mode_of.Source node schema (length instance.old) (length steps.old)) }
 {
-    checker::qy_validate_source(
-        pool, texts, nodes, notes, schemas, registry, patterns, links, numbers, node, schema,
-        instance, steps,
-    )
+    let tables = Tables::new(
+        pool, texts, nodes, notes, schemas, registry, patterns, links, numbers,
+    );
+    checker::qy_validate_source(&tables, node, schema, instance, steps)
 }
 
 // The same, in standard mode.
@@ -112,12 +127,16 @@ pub extern "C" fn qy_validate_standard(
     instance: &mut [u32],
     steps: &mut [u32],
 ) -> Flat
-    ensures { record { answer = result; instance = instance.new; schema = steps.new } ≡ left_of (validate_of (tables pool.now texts.now nodes.now notes.now schemas.now registry.now patterns.now links.now numbers.now) mode_of.Standard node schema (length instance.old) (length steps.old)) }
+    ensures { let T = tables pool.now texts.now nodes.now notes.now schemas.now
+        registry.now patterns.now links.now numbers.now in
+        record { answer = result; instance = instance.new; schema = steps.new } ≡
+        left_of (validate_of T mode_of.Standard node schema (length instance.old)
+        (length steps.old)) }
 {
-    checker::qy_validate_standard(
-        pool, texts, nodes, notes, schemas, registry, patterns, links, numbers, node, schema,
-        instance, steps,
-    )
+    let tables = Tables::new(
+        pool, texts, nodes, notes, schemas, registry, patterns, links, numbers,
+    );
+    checker::qy_validate_standard(&tables, node, schema, instance, steps)
 }
 
 // A schema compiled: its record and those that it needs stand behind the used records of tables 3, 4 and 7.
@@ -137,7 +156,11 @@ pub extern "C" fn qy_compile(
     numbers: &[u64],
     schema: u32,
 ) -> Flat
-    ensures { record { answer = result; notes = notes.new; schemas = schemas.new; links = links.new } ≡ left_tables_of (compile_of (tables pool.now texts.now nodes.now notes.old schemas.old registry.now patterns.now links.old numbers.now) (record { notes = used_notes; schemas = used_schemas; links = used_links }) schema) }
+    ensures { let T = tables pool.now texts.now nodes.now notes.old schemas.old
+        registry.now patterns.now links.old numbers.now in
+        record { answer = result; notes = notes.new; schemas = schemas.new; links = links.new } ≡
+        left_tables_of (compile_of T
+        (record { notes = used_notes; schemas = used_schemas; links = used_links }) schema) }
 {
     checker::qy_compile(
         pool,

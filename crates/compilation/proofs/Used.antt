@@ -12,8 +12,9 @@ use lib.Dec.{leb}
 use Rattle.text.specs.Choice.{both-holds, both_left, both_right}
 use Rattle.layout.specs.Layout.{Tables, tables, note_words, schema_words, most_notes, most_schemas, most_links, note_count, schema_count}
 use Rattle.error.specs.declared.Used.{Used}
-use Rattle.tables.specs.declared.check.Fault.{Fault}
-use Rattle.tables.specs.declared.check.Fault.TheVariants.{Sound, Bad}
+use Rattle.std.specs.Prelude.{Err}
+use Rattle.error.specs.declared.Failure.{Failure}
+use Rattle.tables.specs.Found.{Fault, Sound}
 use Rattle.tables.specs.Check.{whole_size, used_size, sizes_fault, lent_fault, tables_fault}
 use Rattle.tables.proofs.Faults.{first_sound, size_good, size_rest}
 use Rattle.compilation.specs.Entry.{used_tables, used_fault}
@@ -76,9 +77,9 @@ module _ (T : Tables) (u : Used) where
   unfolding used_sizes
   sizes_told e a n b s l t = cc
 
-  pub used_bad : (table n : ℕ) → used_sizes ≡ Bad table n → Bad table n ≡ used_fault T u
+  pub used_bad : (failure : Failure) → used_sizes ≡ Err failure → Err failure ≡ used_fault T u
   unfolding used_fault used_sizes
-  used_bad table n h = rw h
+  used_bad failure h = rw h
 
   -- the used parts are neither ragged nor too long
   pub lent_sound : used_sizes ≡ Sound → lent_fault (used_tables T u) ≡ Sound

@@ -12,9 +12,8 @@ use borrow.Author.Tests.{lt-leb, ne_eqb, eqb-true, eqb-false}
 use Rattle.text.specs.Choice.{pick, pick_all, le_or_lt}
 use Rattle.text.specs.Text.{same_text}
 use Rattle.layout.specs.Layout.{Tables, tables, NONE, schema_kind, schema_count, bases_first, bases_count, entry_count, entry_schema}
-use Rattle.lookup.specs.declared.Found.{Found}
-use Rattle.lookup.specs.declared.Found.TheVariants.{At, Nothing}
-use Rattle.lookup.specs.Find.{last_below, found_at, to_option}
+use Rattle.lookup.specs.Find.{Found, last_below, found_at, to_option}
+use Rattle.std.specs.Prelude.{Some, None}
 use Rattle.lookup.specs.Lookup.{entry_is_named, resolve_of}
 use Rattle.tables.specs.Facts.{WellFormed}
 use Rattle.tables.proofs.Facts.{SchemaFacts, schema-facts, entry-facts}
@@ -33,21 +32,21 @@ use Rattle.compilation.proofs.Built.{word, says, group_same, array_same, plain_s
 
 -- what is found lies below c
 abbrev FoundBelow : ℕ → Found → Type 0
-FoundBelow c (At i) = i < c
-FoundBelow c Nothing = Unit {0}
+FoundBelow c (Some i) = i < c
+FoundBelow c None = Unit {0}
 
 found_later : (n : ℕ) (x : Found) → FoundBelow n x → FoundBelow (suc n) x
-found_later n (At i) h = omega arith
-found_later n Nothing h = tt
+found_later n (Some i) h = omega arith
+found_later n None h = tt
 
 last_below_lem : (f : ℕ → Bool) (n : ℕ) → FoundBelow n (last_below f n)
 unfolding last_below
 last_below_lem f zero = tt
-last_below_lem f (suc n) = pick_all (FoundBelow (suc n)) (f n) (At n) (last_below f n) (λ e. omega arith) (λ e. found_later n (last_below f n) (last_below_lem f n))
+last_below_lem f (suc n) = pick_all (FoundBelow (suc n)) (f n) (Some n) (last_below f n) (λ e. omega arith) (λ e. found_later n (last_below f n) (last_below_lem f n))
 
 value_below : (value : ℕ → ℕ) (n c : ℕ) → ((i : ℕ) → i < n → value i < c) → (x : Found) → FoundBelow n x → FoundBelow c (found_at value x)
-value_below value n c h (At i) l = h i l
-value_below value n c h Nothing l = tt
+value_below value n c h (Some i) l = h i l
+value_below value n c h None l = tt
 
 -- the kinds there are
 by_kind : {A : Type 0} (k : ℕ) → k ≤ 11 → (k ≤ 6 → A) → (k ≡ 7 → A) → (k ≡ 8 → A) → (k ≡ 9 → A) → (k ≡ 10 → A) → (k ≡ 11 → A) → A
@@ -152,8 +151,8 @@ module _ {C : Source} {R : Room} (rooms : Rooms C R) (nodes patterns numbers : L
 
     -- an eager ref's target is a record of the source
     eager_same : (x : Found) → FoundBelow C.count x → Same C (on_found x (go st) (refused 32)) (eagerly R same (target_in C) to (to_option x) t)
-    eager_same (At i) l = follows st i g l
-    eager_same Nothing l = stopped 32
+    eager_same (Some i) l = follows st i g l
+    eager_same None l = stopped 32
 
     at_ref : field C s 0 ≡ 11 → Met
     unfolding compile_shape

@@ -4,12 +4,12 @@ use Rattle.text.specs.Choice.{pick}
 use Rattle.text.specs.Text.{same_text, padded}
 use Rattle.error.specs.declared.Answer.{Answer}
 use Rattle.error.specs.declared.Used.{Used}
-use Rattle.error.specs.Answers.{plain_answer, bad_table, found_record, with_used}
+use Rattle.error.specs.Answers.{plain_answer, failure_answer, found_record, with_used}
 use Rattle.error.specs.Paths.{levels}
 use Rattle.layout.specs.Layout.{Tables, note_words, schema_words, most_notes, most_schemas, most_links, note_count, schema_count}
 use Rattle.lookup.specs.Lookup.{find_in}
-use Rattle.tables.specs.declared.check.Fault.{Fault}
-use Rattle.tables.specs.Check.{used_size, sizes_fault, records_fault, on_fault, or_else}
+use Rattle.tables.specs.Found.{Fault, on_fault, or_else}
+use Rattle.tables.specs.Check.{used_size, sizes_fault, records_fault}
 use Rattle.schema.specs.Look.{Words, words_of}
 use Rattle.compilation.specs.Compile.{Result, ok, refuse, Room, compile_at}
 
@@ -85,7 +85,7 @@ abbrev pub untouched : Tables → Answer → Compiled
 untouched T a = record { answer = a; notes = T.notes; schemas = T.schemas; links = T.links }
 
 abbrev pub or_fault : Tables → Used → Fault → Compiled → Compiled
-or_fault T u f rest = on_fault f (λ table n. untouched T (with_used (bad_table table n) u)) rest
+or_fault T u f rest = on_fault f (λ failure. untouched T (with_used (failure_answer failure) u)) rest
 
 -- bad tables first, then a schema number that no used record has, then the work
 unfoldable pub compile_of : Tables → Used → ℕ → Compiled

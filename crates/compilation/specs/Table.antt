@@ -12,8 +12,8 @@ use Rattle.schema.specs.Shape.{Pair}
 use Rattle.merge.specs.Merge.{put_all}
 use Rattle.merge.specs.Pairs.{flat_pairs, merge_all, record_pairs}
 use Rattle.compilation.specs.State.{Source, State, Out, done, refused, Outs, many, stop, and_then, on_many, add_schema, add_links, add_note}
-use Rattle.lookup.specs.declared.Found.{Found}
-use Rattle.lookup.specs.declared.Found.TheVariants.{At, Nothing}
+use Rattle.lookup.specs.Find.{Found}
+use Rattle.std.specs.Prelude.{Some, None}
 
 abbrev pub field : Source → ℕ → ℕ → ℕ
 field C s k = schema_word C.schemas s k
@@ -133,8 +133,8 @@ abbrev pub is_eager : List ℕ → ℕ → Bool
 is_eager S s = both (eqb (schema_kind S s) 11) (eqb (ref_eager S s) 1)
 
 abbrev pub on_found {ℓ} : {A : Type ℓ} → Found → (ℕ → A) → A → A
-on_found (At t) f e = f t
-on_found Nothing f e = e
+on_found (Some t) f e = f t
+on_found None f e = e
 
 -- an object with bases: these first; 31 where one is no object, 30 where there is none
 unfoldable pub derived_at : Source → (State → ℕ → Out) → State → ℕ → Out

@@ -5,7 +5,7 @@ use mathlib.Core.Bool.{Bool, true, false}
 use mathlib.Core.List.{List}
 use mathlib.Core.Logic.{⊎_elim}
 use native.Mathlib.Omega.{arith}
-use borrow.Author.Tests.{eq-eqb, ne_eqb, le-leb, lt-leb}
+use borrow.Author.Tests.{ne_eqb, le-leb, lt-leb}
 use lib.ListN.{length, take}
 use lib.Seq.{length-take-le, take_all}
 use lib.Dec.{eqb}
@@ -14,18 +14,21 @@ use Rattle.text.specs.Text.{padded}
 use Rattle.layout.specs.Layout.{Tables}
 use Rattle.error.specs.declared.Used.{Used}
 use Rattle.error.specs.declared.Answer.{Answer}
-use Rattle.error.specs.Answers.{plain_answer, bad_table, found_record, with_used}
+use Rattle.error.specs.Answers.{number_of, plain_answer, failure_answer, found_record, with_used}
 use Rattle.error.specs.Paths.{levels}
 use Rattle.append.specs.Append.{cleared}
-use Rattle.tables.specs.declared.check.Fault.TheVariants.{Sound, Bad}
-use Rattle.compilation.specs.Compile.{Result}
+use Rattle.tables.specs.Found.{Fault, Sound}
+use Rattle.compilation.specs.Compile as meaning
 use Rattle.compilation.specs.Entry.{Compiled, used_tables, used_fault, finished, compile_of}
 use Rattle.compilation.specs.State.{Source, Out, done, refused, source_of, state_of}
 use Rattle.compilation.specs.Table.{compile_at}
-use Rattle.derive.specs.Meets.{out_of}
+use Rattle.std.specs.Prelude.{Result, Ok, Err}
+use Rattle.error.specs.declared.Failure.{Failure}
+use Rattle.derive.specs.Meets.{Told, told, out_of}
+use Rattle.derive.proofs.Build.{number_some}
 use Rattle.build.specs.Meets.{One}
 use Rattle.derive.specs.declared.Made.{Made}
-use Rattle.compile.specs.Ended.{kept_of, answered_of, compiled, ended_of}
+use Rattle.compile.specs.Ended.{answered_of, compiled, ended_of}
 use Rattle.compilation.proofs.Same.{Same, made, stopped}
 use Rattle.compilation.proofs.Bridge.{source_for, state_for, counts_are, compiled_same}
 
@@ -46,28 +49,23 @@ parts : {a a' : Answer} {n n' s s' l l' : List ℕ} → a ≡ a' → n ≡ n' �
 parts a n s l = rw (a, n, s, l)
 
 -- the cycle's answer, where it is a record and where it refuses
-module _ (a : Made) (u : Used) where
-  pub kept-done : a.no ≡ 0 → a.used ≡ kept_of a u
-  unfolding kept_of
-  kept-done h = rw (eq-eqb a.no 0 h)
+told_kept : (u : Used) (r : Result Made Failure) → (told u r).used ≡ pick (eqb (told u r).no 0) (told u r).used u
+told_kept u (Ok m) = refl
+told_kept u (Err failure) = rw (ne_eqb (number_of failure) 0 (number_some failure))
 
-  pub kept-refused : (a.no ≡ 0 → ⊥) → u ≡ kept_of a u
-  unfolding kept_of
-  kept-refused h = rw (ne_eqb a.no 0 h)
-
-  pub answered-done : a.no ≡ 0 → {x r : Answer} → x ≡ found_record a.rec → r ≡ with_used x u → r ≡ answered_of a u
-  unfolding answered_of
-  answered-done h x r = rw (eq-eqb a.no 0 h) (r ∙ ap (λ (y : Answer). with_used y u) x)
-
-  pub answered-refused : (a.no ≡ 0 → ⊥) → {x r : Answer} → x ≡ plain_answer a.no → r ≡ with_used x u → r ≡ answered_of a u
-  unfolding answered_of
-  answered-refused h x r = rw (ne_eqb a.no 0 h) (r ∙ ap (λ (y : Answer). with_used y u) x)
+told_answered : (u k : Used) (r : Result Made Failure) → answered_of r k ≡ pick (eqb (told u r).no 0) (with_used (found_record (told u r).rec) k) (with_used (plain_answer (told u r).no) k)
+unfolding answered_of
+told_answered u k (Ok m) = refl
+told_answered u k (Err failure) = rw (ne_eqb (number_of failure) 0 (number_some failure))
 
 -- what `clear` leaves
 abbrev pub Cleared : List ℕ → List ℕ → List ℕ → List ℕ → List ℕ → List ℕ → Used → Type 0
 Cleared N S L N' S' L' u = (N' ≡ cleared N (u.notes * 9)) × (S' ≡ cleared S (u.schemas * 16)) × (L' ≡ cleared L u.links)
 
-module _ (P T R : List ℕ) (u : Used) (N S L N₁ S₁ L₁ N' S' L' X X' : List ℕ) (level s sp : ℕ) (a : Made) (o : One (source_of P T R u N S L) (source_of P T R u N₁ S₁ L₁) level s (state_of u N S L) u N₁ S₁ L₁ X X' sp a) where
+module _ (P T R : List ℕ) (u : Used) (N S L N₁ S₁ L₁ N' S' L' X X' : List ℕ) (level s sp : ℕ) (made : Result Made Failure) (o : One (source_of P T R u N S L) (source_of P T R u N₁ S₁ L₁) level s (state_of u N S L) u N₁ S₁ L₁ X X' sp (told u made)) where
+  abbrev a : Told
+  a = told u made
+
   abbrev C : Source
   C = source_of P T R u N S L
 
@@ -96,20 +94,24 @@ module _ (P T R : List ℕ) (u : Used) (N S L N₁ S₁ L₁ N' S' L' X X' : Lis
       (cleared-kept S S₁ S' (take (u.schemas * 16) S) (u.schemas * 16) c.1 (ap (λ (D : Source). D.schemas) o.ran.source) schemas-long)
       (cleared-kept L L₁ L' (take u.links L) u.links c.2 (ap (λ (D : Source). D.links) o.ran.source) links-long))
 
-  pub ended : {k : Used} {r : Answer} → k ≡ kept_of a u → Cleared N₁ S₁ L₁ N' S' L' k → r ≡ answered_of a k → compiled r N' S' L' ≡ ended_of N S L u (compile_at C level (state_of u N S L) s)
-  unfolding kept_of answered_of out_of
-  ended k c r = ends (eqb a.no 0) (sym o.answer) (rw k at c) (rw k at r)
+  pub ended : {k : Used} {r : Answer} → k ≡ a.used → Cleared N₁ S₁ L₁ N' S' L' k → r ≡ answered_of made k → compiled r N' S' L' ≡ ended_of N S L u (compile_at C level (state_of u N S L) s)
+  unfolding out_of
+  ended k c r = let e = k ∙ told_kept u made in ends (eqb a.no 0) (sym o.answer) (rw e at c) (rw e at (r ∙ told_answered u _ made))
 
 -- over the tables, and as the call is defined
-ended_same : (T : Tables) (u : Used) {C : Source} {o : Out} {r : Result ℕ} → Same C o r → ended_of T.notes T.schemas T.links u o ≡ finished T u r
+ended_same : (T : Tables) (u : Used) {C : Source} {o : Out} {r : meaning.Result ℕ} → Same C o r → ended_of T.notes T.schemas T.links u o ≡ finished T u r
 unfolding ended_of used_tables
 ended_same T u (made st n g) = parts (ap (with_used (found_record n)) (sym (counts_are g))) refl refl refl
 ended_same T u (stopped k) = refl
 
+-- the check's answer, where the tables were lent as one value
+pub of_lent : (u : Used) {T T' : Tables} {f : Fault} → f ≡ used_fault T u → T ≡ T' → f ≡ used_fault T' u
+of_lent u e t = rw t at e
+
 module _ (T : Tables) (u : Used) (s : ℕ) where
-  pub answer_bad : (table n : ℕ) → used_fault T u ≡ Bad table n → {x r : Answer} → x ≡ bad_table table n → r ≡ with_used x u → compiled r T.notes T.schemas T.links ≡ compile_of T u s
+  pub answer_bad : (failure : Failure) → used_fault T u ≡ Err failure → {x r : Answer} → x ≡ failure_answer failure → r ≡ with_used x u → compiled r T.notes T.schemas T.links ≡ compile_of T u s
   unfolding compile_of
-  answer_bad table n h x r = rw h (parts (r ∙ ap (λ (y : Answer). with_used y u) x) refl refl refl)
+  answer_bad failure h x r = rw h (parts (r ∙ ap (λ (y : Answer). with_used y u) x) refl refl refl)
 
   pub answer_beyond : used_fault T u ≡ Sound → u.schemas ≤ s → {x r : Answer} → x ≡ plain_answer 21 → r ≡ with_used x u → compiled r T.notes T.schemas T.links ≡ compile_of T u s
   unfolding compile_of

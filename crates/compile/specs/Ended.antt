@@ -1,21 +1,19 @@
 -- What the work answers and leaves, from what compiling over the tables gives. Assumes nothing.
-use Rattle.std.specs.Prelude.{ℕ, ◌*◌, List, length, take, eqb}
-use Rattle.text.specs.Choice.{pick}
+use Rattle.std.specs.Prelude.{ℕ, ◌*◌, List, length, take, Result, Ok, Err}
 use Rattle.text.specs.Text.{padded}
 use Rattle.error.specs.declared.Used.{Used}
 use Rattle.error.specs.declared.Answer.{Answer}
-use Rattle.error.specs.Answers.{plain_answer, found_record, with_used}
+use Rattle.error.specs.declared.Failure.{Failure}
+use Rattle.error.specs.Answers.{number_of, plain_answer, found_record, with_used}
 use Rattle.layout.specs.Layout.{note_words, schema_words}
 use Rattle.compilation.specs.Entry.{Compiled}
 use Rattle.compilation.specs.State.{State, Out, done, refused}
 use Rattle.derive.specs.declared.Made.{Made}
 
--- what the cycle's answer leaves in use, and what it is told as
-unfoldable pub kept_of : Made → Used → Used
-kept_of m u = pick (eqb m.no 0) m.used u
-
-unfoldable pub answered_of : Made → Used → Answer
-answered_of m u = pick (eqb m.no 0) (with_used (found_record m.rec) u) (with_used (plain_answer m.no) u)
+-- what the cycle's answer is told as
+unfoldable pub answered_of : Result Made Failure → Used → Answer
+answered_of (Ok m) u = with_used (found_record m.rec) u
+answered_of (Err failure) u = with_used (plain_answer (number_of failure)) u
 
 abbrev pub compiled : Answer → List ℕ → List ℕ → List ℕ → Compiled
 compiled answer notes schemas links = record { answer = answer; notes = notes; schemas = schemas; links = links }

@@ -9,23 +9,27 @@ use borrow.Author.Tests.{eq-eqb, ne_eqb}
 use Rattle.append.specs.Append.{room, Grown}
 use Rattle.append.proofs.Laws.{room_limit}
 use Rattle.merge.proofs.Lists.{part_same}
+use Rattle.std.specs.Prelude.{Result, Ok, Err}
 use Rattle.error.specs.declared.Used.{Used}
+use Rattle.error.specs.declared.Failure.{Failure}
+use Rattle.error.specs.declared.Failure.TheVariants.{BadTable, WrongNumber, ShortBuffer, TooDeep, NoPatternAnswer, NoAlternative, NoBases, BaseNotObject, UnknownReference, NoRoom, NotFound}
+use Rattle.error.specs.Answers.{number_of}
 use Rattle.compilation.specs.State.{Source, Out, done, refused, source_of, state_of, add_schema, add_links, add_note}
-use Rattle.derive.specs.Meets.{out_of, Ran, Built, Finished}
 use Rattle.derive.specs.declared.Made.{Made}
+use Rattle.derive.specs.Meets.{Told, told, out_of, Ran, Built, Finished}
 
 -- answers
-pub out-done : (r : Made) (N S L : List ℕ) → r.no ≡ 0 → out_of r N S L ≡ done (state_of r.used N S L) r.rec
+pub out-done : (r : Told) (N S L : List ℕ) → r.no ≡ 0 → out_of r N S L ≡ done (state_of r.used N S L) r.rec
 unfolding out_of
 out-done r N S L h = rw (eq-eqb r.no 0 h)
 
-pub out-refused : (r : Made) (N S L : List ℕ) → (r.no ≡ 0 → ⊥) → out_of r N S L ≡ refused r.no
+pub out-refused : (r : Told) (N S L : List ℕ) → (r.no ≡ 0 → ⊥) → out_of r N S L ≡ refused r.no
 unfolding out_of
 out-refused r N S L h = rw (ne_eqb r.no 0 h)
 
 -- what ran
 pub ran-none : (C : Source) (u : Used) (X : List ℕ) (sp : ℕ) → u.schemas ≤ 4096 → Ran C C u u X X sp
-ran-none C u X sp h = record { source = refl; stack = refl; notes = omega arith; schemas = omega arith; links = omega arith; most = h }
+ran-none C u X sp h = record { source = refl; stack = refl; long = refl; notes = omega arith; schemas = omega arith; links = omega arith; most = h }
 
 -- the source stays where only words after the used ones change
 pub source_same : (P T R : List ℕ) (b u : Used) (N N' S S' L L' : List ℕ) → b.notes ≤ u.notes → b.schemas ≤ u.schemas → b.links ≤ u.links → take (u.notes * 9) N' ≡ take (u.notes * 9) N → take (u.schemas * 16) S' ≡ take (u.schemas * 16) S → take u.links L' ≡ take u.links L → length N' ≡ length N → length S' ≡ length S → length L' ≡ length L → source_of P T R b N' S' L' ≡ source_of P T R b N S L
@@ -100,5 +104,37 @@ refused-built o k C C' u v N S L X X' sp h e r =
       rise = λ z. absurd (h z);
     }
 
-pub built_is : (o o' : Out) (C C' : Source) (u : Used) (N S L X X' : List ℕ) (sp : ℕ) (r : Made) → o ≡ o' → Built o' C C' u N S L X X' sp r → Built o C C' u N S L X X' sp r
+pub built_is : (o o' : Out) (C C' : Source) (u : Used) (N S L X X' : List ℕ) (sp : ℕ) (r : Told) → o ≡ o' → Built o' C C' u N S L X X' sp r → Built o C C' u N S L X X' sp r
 built_is o o' C C' u N S L X X' sp r e h = rw e h
+
+-- no failure has the number of a success
+pub number_some : (failure : Failure) → number_of failure ≡ 0 → ⊥
+number_some (BadTable table place) e = omega arith
+number_some WrongNumber e = omega arith
+number_some ShortBuffer e = omega arith
+number_some TooDeep e = omega arith
+number_some NoPatternAnswer e = omega arith
+number_some NoAlternative e = omega arith
+number_some NoBases e = omega arith
+number_some BaseNotObject e = omega arith
+number_some UnknownReference e = omega arith
+number_some NoRoom e = omega arith
+number_some NotFound e = omega arith
+
+-- a refusal gives back the counts before it
+pub ran_back : (C C' : Source) (u v : Used) (X X' : List ℕ) (sp : ℕ) → u.schemas ≤ 4096 → Ran C C' u v X X' sp → Ran C C' u u X X' sp
+ran_back C C' u v X X' sp h r =
+    record { source = r.source; stack = r.stack; long = r.long; notes = omega arith; schemas = omega arith; links = omega arith; most = h }
+
+pub built_back : (o : Out) (C C' : Source) (u v : Used) (N S L X X' : List ℕ) (sp k : ℕ) → u.schemas ≤ 4096 → (k ≡ 0 → ⊥) → Built o C C' u N S L X X' sp (record { no = k; rec = 0; fresh = false; used = v }) → Built o C C' u N S L X X' sp (record { no = k; rec = 0; fresh = false; used = u })
+built_back o C C' u v N S L X X' sp k h z b =
+    record {
+      answer = out-refused (record { no = k; rec = 0; fresh = false; used = u }) N S L z ∙ sym (out-refused (record { no = k; rec = 0; fresh = false; used = v }) N S L z) ∙ b.answer;
+      ran = ran_back C C' u v X X' sp h b.ran;
+      fresh = λ q. absurd (z q);
+      rise = λ q. absurd (z q);
+    }
+
+pub built_told : (o : Out) (C C' : Source) (u v : Used) (N S L X X' : List ℕ) (sp : ℕ) (r : Result Made Failure) → u.schemas ≤ 4096 → Built o C C' u N S L X X' sp (told v r) → Built o C C' u N S L X X' sp (told u r)
+built_told o C C' u v N S L X X' sp (Ok m) h b = b
+built_told o C C' u v N S L X X' sp (Err e) h b = built_back o C C' u v N S L X X' sp (number_of e) h (number_some e) b

@@ -4,7 +4,8 @@ use mathlib.Core.Path.{◌≡◌, refl, sym, ap, ◌∙◌}
 use mathlib.Core.Bool.{Bool, true, false}
 use mathlib.Core.List.{List, ◌++◌}
 use native.Mathlib.Omega.{arith}
-use lib.ListN.{length, take, length-append}
+use lib.ListN.{length, take, drop, length-append}
+use Rattle.std.specs.Prelude.{Option, Some, None}
 use lib.Dec.{eqb}
 use borrow.Author.Tests.{le-ltb}
 use Rattle.text.specs.Choice.{pick}
@@ -14,24 +15,20 @@ use Rattle.append.proofs.Laws.{room_limit}
 use Rattle.layout.specs.Layout.{NONE}
 use Rattle.layout.specs.Rows.{object_row}
 use Rattle.schema.specs.Shape.{Pair}
-use Rattle.merge.specs.Pairs.{span, flat_pairs}
+use Rattle.merge.specs.Pairs.{flat_pairs}
 use Rattle.merge.proofs.Laws.{flat_length}
 use Rattle.error.specs.declared.Used.{Used}
 use Rattle.joins.specs.declared.Offers.{Offers}
 use Rattle.joins.specs.declared.Lists.{Lists}
-use Rattle.joins.specs.Joins.{offer_of, offered_of, keep_one, joined, tally_one, tally, no_offers, join_words, closed_of, pair_words, required_words, Linked}
+use Rattle.joins.specs.Joins.{offer_of, offered_of, keep_one, joined, tally_one, tally, no_offers, join_words, closed_of, pair_words, required_words, total, Linked}
 use Rattle.joins.proofs.Laws.{one_n, tally_n, offered_at}
 use Rattle.compilation.specs.State.{Source, State, done, and_then, source_of, state_of, add_schema, add_links, add_note}
 use Rattle.compilation.specs.Table.{field, merged_note, merged_note_in, merged_pairs, required_at, offers_at, join_links_at, join_row_at, merge_at}
 use Rattle.inherit.specs.Carried.{Carried}
-use Rattle.derive.specs.Meets.{Ready, Ran, Built, Rowed, join_row, rows_of, words_of, used_after, Fits, RowsReady}
-use Rattle.derive.specs.declared.Made.{Made}
+use Rattle.derive.specs.Meets.{Told, Ready, Ran, Built, Rowed, join_row, rows_of, words_of, used_after, Fits, RowsReady}
 use Rattle.inherit.specs.declared.Scalars.{Scalars}
 use Rattle.derive.proofs.Build.{source_same, links-done, links_full, note-done, note_full, refused-built}
 use Rattle.derive.proofs.Rows.{rows-built}
-
-pub grown_is : (limit : ℕ) (W W' : List ℕ) (used : ℕ) (new : List ℕ) (r y : Bool) → r ≡ y → Grown limit W W' used new r → Grown limit W W' used new y
-grown_is limit W W' used new r y e g = rw e at g
 
 -- as many links as offers
 join_length : (N S : List ℕ) (names : Bool) (bs : List ℕ) (own : ℕ) (o : Offers) → o ≡ tally_one (tally (offer_of N S names) no_offers bs) own → 2 ≤ o.n → length (join_words o.n (joined (offered_of N S names) bs) own) ≡ o.n
@@ -57,7 +54,7 @@ module _ (P T R : List ℕ) (b u : Used) (N S L X : List ℕ) (sp count s : ℕ)
   st₀ = state_of u N S L
 
   abbrev bs : List ℕ
-  bs = span X sp 1 count
+  bs = take count (drop sp X)
 
   abbrev S₁ : List ℕ
   S₁ = take (u.schemas * 16) S
@@ -110,13 +107,14 @@ module _ (P T R : List ℕ) (b u : Used) (N S L X : List ℕ) (sp count s : ℕ)
         record {
           source = source_same P T R b u N N₁ S S L L' rd.notes rd.schemas rd.links a refl d c refl f;
           stack = refl;
+          long = refl;
           notes = x;
           schemas = omega (arith, y);
           links = z;
           most = omega (arith, y, rd.most);
         }
 
-    abbrev full : Made
+    abbrev full : Told
     full = record { no = 33; rec = 0; fresh = false; used = u }
 
     pub merge_no_note : Grown 9216 N N₁ (u.notes * 9) w false → Built (merge_at C₀ st₀ s bs) C₀ (source_of P T R b N₁ S L) u N₁ S L X X sp full
@@ -126,7 +124,7 @@ module _ (P T R : List ℕ) (b u : Used) (N S L X : List ℕ) (sp count s : ℕ)
         (rw (← e, note_full C₀ u N N₁ S L w nine refl g))
         (ran_to u L g.kept g.long refl refl (omega arith) refl (omega arith))
 
-    module _ (g : Grown 9216 N N₁ (u.notes * 9) w true) (own : ℕ) (e6 : own ≡ field C₀ s 6) (none : ℕ) (e12 : none ≡ NONE) (x y : Offers) (ex : Offered false own x) (ey₀ : Offered true none y) (L₁ : List ℕ) (z : Lists) (lk : Linked L L₁ u.links (pairs_of 2) (pairs_of 4) required_all (join_of N₁ false x.n own) (join_of N₁ true y.n NONE) z) where
+    module _ (g : Grown 9216 N N₁ (u.notes * 9) w true) (own : ℕ) (e6 : own ≡ field C₀ s 6) (none : ℕ) (e12 : none ≡ NONE) (x y : Offers) (ex : Offered false own x) (ey₀ : Offered true none y) (L₁ : List ℕ) (o : Option Lists) (lk : Linked L L₁ u.links (pairs_of 2) (pairs_of 4) required_all (join_of N₁ false x.n own) (join_of N₁ true y.n NONE) o) where
       abbrev u₁ : Used
       u₁ = record { notes = u.notes + 1; schemas = u.schemas; links = u.links }
 
@@ -157,22 +155,22 @@ module _ (P T R : List ℕ) (b u : Used) (N S L X : List ℕ) (sp count s : ℕ)
       names_are : join_of N₁ true y.n NONE ≡ n
       names_are = rw g.kept (join_are true NONE y ey)
 
-      linked : Linked L L₁ u.links p q r a n z
+      linked : Linked L L₁ u.links p q r a n o
       linked = rw (pairs_are 2, pairs_are 4, required_are, additional_are, names_are) at lk
 
-      pub merge_no_links : z.full ≡ true → Built (merge_at C₀ st₀ s bs) C₀ (source_of P T R b N₁ S L₁) u N₁ S L₁ X X sp full
+      pub merge_no_links : o ≡ None → Built (merge_at C₀ st₀ s bs) C₀ (source_of P T R b N₁ S L₁) u N₁ S L₁ X X sp full
       unfolding merge_at
       merge_no_links f =
           refused-built (merge_at C₀ st₀ s bs) 33 C₀ (source_of P T R b N₁ S L₁) u u N₁ S L₁ X X sp (λ z. omega arith)
-          (rw (noted, links_full C₀ u₁ N₁ S L (length (p ++ q ++ r ++ a ++ n)) (p ++ q ++ r ++ a ++ n) refl refl (linked.laid.full f)))
+          (rw (noted, links_full C₀ u₁ N₁ S L (length (p ++ q ++ r ++ a ++ n)) (p ++ q ++ r ++ a ++ n) refl refl (linked.laid.full (ap total f))))
           (ran_to u L₁ g.kept g.long linked.laid.kept linked.laid.long (omega arith) refl (omega arith))
 
-      module _ (f : z.full ≡ false) where
-        total : length (p ++ q ++ r ++ a ++ n) ≡ words_of z
-        total = linked.laid.count f
+      module _ (z : Lists) (f : o ≡ Some z) where
+        word_count : length (p ++ q ++ r ++ a ++ n) ≡ words_of z
+        word_count = linked.laid.count (words_of z) (ap total f)
 
         small : u.links + words_of z ≤ 16384
-        small = omega (arith, total, room_limit 16384 (length L) u.links (length (p ++ q ++ r ++ a ++ n)) (linked.laid.fits f))
+        small = omega (arith, word_count, room_limit 16384 (length L) u.links (length (p ++ q ++ r ++ a ++ n)) (linked.laid.fits (words_of z) (ap total f)))
 
         pub merge-fits : Fits u z
         merge-fits =
@@ -191,20 +189,20 @@ module _ (P T R : List ℕ) (b u : Used) (N S L X : List ℕ) (sp count s : ℕ)
             record {
               most = omega (arith, ap (λ (i : Used). i.schemas) ev, rd.most);
               short = small;
-              few = few_of false own x z.additional ex (lk.additional f) (omega arith);
-              fewer = few_of true NONE y z.names ey (lk.names f) (omega arith);
+              few = few_of false own x z.additional ex (lk.counted.additional z f) (omega arith);
+              fewer = few_of true NONE y z.names ey (lk.counted.names z f) (omega arith);
             }
 
         linked_done : add_links C₀ (state_of u₁ N₁ S L) (p ++ q ++ r ++ a ++ n) ≡ done (state_of (used_after u z) N₁ S L₁) u.links
-        linked_done = links-done C₀ u₁ N₁ S L L₁ (words_of z) (p ++ q ++ r ++ a ++ n) total refl (rw total at (linked.laid.fits f)) (linked.laid.grown f)
+        linked_done = links-done C₀ u₁ N₁ S L L₁ (words_of z) (p ++ q ++ r ++ a ++ n) word_count refl (rw word_count at (linked.laid.fits (words_of z) (ap total f))) (linked.laid.grown (words_of z) (ap total f))
 
-        pub merge-done : (v : Used) → v ≡ used_after u z → (k : Scalars) → Carried (take (b.schemas * 16) S) s S₁ bs k → (S₂ : List ℕ) (t : Made) → Rowed S S₂ v (rows_of u.notes u.links z x y k) t → Built (merge_at C₀ st₀ s bs) C₀ (source_of P T R b N₁ S₂ L₁) u N₁ S₂ L₁ X X sp t
+        pub merge-done : (v : Used) → v ≡ used_after u z → (k : Scalars) → Carried (take (b.schemas * 16) S) s S₁ bs k → (S₂ : List ℕ) (t : Told) → Rowed S S₂ v (rows_of u.notes u.links z x y k) t → Built (merge_at C₀ st₀ s bs) C₀ (source_of P T R b N₁ S₂ L₁) u N₁ S₂ L₁ X X sp t
         unfolding merge_at
         merge-done v ev k h S₂ t d =
-            let lp : length p ≡ z.properties = linked.properties f in
-            let lq : length q ≡ z.patterns = linked.patterns f in
-            let lr : length r ≡ z.required = linked.required f in
-            let la : length a ≡ z.additional = linked.additional f in
+            let lp : length p ≡ z.properties = linked.counted.properties z f in
+            let lq : length q ≡ z.patterns = linked.counted.patterns z f in
+            let lr : length r ≡ z.required = linked.counted.required z f in
+            let la : length a ≡ z.additional = linked.counted.additional z f in
             let lpq : length (p ++ q) ≡ z.properties + z.patterns = omega (arith, length-append p q) in
             let lpqr : length (p ++ q ++ r) ≡ z.properties + z.patterns + z.required = omega (arith, length-append (p ++ q) r) in
             let lpqra : length (p ++ q ++ r ++ a) ≡ z.properties + z.patterns + z.required + z.additional = omega (arith, length-append (p ++ q ++ r) a) in

@@ -1,13 +1,15 @@
 -- A key that an object has by its number, and an object before its entries. Assumes nothing.
 use Prim.Native.Nat.{ℕ, zero, suc, ◌+◌, ◌-◌, ◌<◌, ◌≤◌}
 use mathlib.Core.Path.{◌≡◌, refl, sym, ap, ◌∙◌}
-use mathlib.Core.Bool.{Bool, true, false}
+use mathlib.Core.Bool.{Bool, true}
 use mathlib.Core.List.{List}
 use mathlib.Core.Logic.{⊎_elim}
 use native.Mathlib.Omega.{arith}
 use lib.ListN.{get_or}
 use lib.Dec.{eqb}
-use borrow.Author.Tests.{eq-eqb, ne_eqb, eqb-true}
+use borrow.Author.Tests.{eq-eqb, eqb-true}
+use Rattle.std.specs.List.{list_any, range_with_len}
+use Rattle.lookup.proofs.Find.{found_where}
 use Rattle.text.specs.Choice.{true_or_false, le_or_lt, clash, both-holds, both_left, both_right}
 use Rattle.text.specs.Text.{text_of, same_text}
 use Rattle.text.proofs.Bytes.{same_complete}
@@ -15,22 +17,11 @@ use Rattle.layout.specs.Layout.{node_kind, node_a, node_b, properties_first, pro
 use Rattle.lookup.specs.Find.{last_below, found}
 use Rattle.lookup.specs.Lookup.{key_is, entry_key, entry_has_key, last_entry}
 use Rattle.schema.specs.Look.{slice}
-use Rattle.judge.specs.declared.Verdict.{Verdict}
-use Rattle.judge.specs.Judge.{is_fine, has_key, keys_verdict, required_verdict, size_verdict, before_entries}
-use Rattle.objects.proofs.Objects.{object_in_lem, object-sized, required_begin, required_more, required_end}
-use Rattle.glance.specs.Glance.{PassesBut, HasKey, HasRequired, numbered}
-use Rattle.glance.proofs.Says.{is_fine_lem}
+use Rattle.judge.specs.Judge.{fine, has_key, keys_verdict, object_verdict, required_verdict, size_verdict, before_entries}
+use Rattle.objects.proofs.Objects.{any_first, required_begin, required_more, required_end}
+use Rattle.glance.specs.Glance.{HasKey, HasRequired, numbered}
 
 -- ---- one node
-module _ (nodes : List ℕ) (t n : ℕ) {kind : ℕ} (ki : kind ≡ node_kind nodes n) where
-  pub numbered_string : {a : ℕ} {r : Bool} → kind ≡ 4 → a ≡ node_a nodes n → r ≡ eqb a t → r ≡ numbered nodes t n
-  unfolding numbered
-  numbered_string h p q = rw (← ki, eq-eqb kind 4 h, ← p) q
-
-  pub numbered_other : (kind ≡ 4 → ⊥) → false ≡ numbered nodes t n
-  unfolding numbered
-  numbered_other h = rw (← ki, ne_eqb kind 4 h)
-
 -- a text has the bytes of the text of its number
 pub numbered_key : (pool texts nodes : List ℕ) (t n : ℕ) → numbered nodes t n ≡ true → key_is pool texts nodes t n ≡ true
 unfolding numbered key_is same_text
@@ -54,10 +45,16 @@ module _ (nodes links : List ℕ) (n t : ℕ) where
   has_key_lem pool texts k l h =
       found_below (entry_has_key pool texts nodes links n t) (node_b nodes n) k l (numbered_key pool texts nodes t (entry_key nodes links n k) h)
 
-  -- what the code has at hand
-  pub yes_key : {count k key : ℕ} {r : Bool} → count ≡ node_b nodes n → k < count → key ≡ entry_key nodes links n k → r ≡ numbered nodes t key → r ≡ true → HasKey true nodes links n t
+  -- what the code has at hand: an entry, or that one of all passes
+  pub key_there : (r : Bool) (k : ℕ) → k < node_b nodes n → numbered nodes t (entry_key nodes links n k) ≡ true → HasKey r nodes links n t
   unfolding HasKey
-  yes_key {count} {k} {key} {r} co l ke q h = λ y pool texts. has_key_lem pool texts k (rw co at l) (rw ke at (sym q ∙ h))
+  key_there r k l h = λ y pool texts. has_key_lem pool texts k l h
+
+  pub key_among : {r : Bool} → r ≡ list_any (λ k. numbered nodes t (entry_key nodes links n k)) (range_with_len 0 (node_b nodes n)) → HasKey r nodes links n t
+  unfolding HasKey
+  key_among e = λ y pool texts.
+      let w = found_where (λ k. numbered nodes t (entry_key nodes links n k)) 0 (node_b nodes n) (sym (any_first (λ k. numbered nodes t (entry_key nodes links n k)) 0 (node_b nodes n)) ∙ sym e ∙ y) in
+      has_key_lem pool texts w.0 (omega (arith, w.1)) w.2
 
 -- ---- the required texts
 module _ (nodes schemas links : List ℕ) (n s : ℕ) where
@@ -79,8 +76,6 @@ module _ (nodes schemas links : List ℕ) (n s : ℕ) where
 
 -- ---- the object
 module _ (pool texts nodes schemas links : List ℕ) (n s : ℕ) where
-  pub object-passes : {kind : ℕ} {w r : Bool} {v : Verdict} → kind ≡ node_kind nodes n → kind ≡ 6 → HasRequired w nodes schemas links n s → w ≡ true → v ≡ size_verdict nodes (object_minimum schemas s) (object_maximum schemas s) n → r ≡ is_fine v → PassesBut r (keys_verdict pool texts nodes links n) (before_entries pool texts nodes schemas links s n)
-  unfolding PassesBut HasRequired
-  object-passes {kind} {w} {r} {v} ki is re wt si ri =
-      λ y keys. sym (object-sized pool texts nodes schemas links s n (sym (object_in_lem pool texts nodes links n (sym ki ∙ is) ∙ keys)) refl (sym (re wt pool texts)) refl refl)
-      ∙ sym si ∙ is_fine_lem v (sym ri ∙ y)
+  pub object_fine : {r : Bool} → node_kind nodes n ≡ 6 → HasRequired r nodes schemas links n s → r ≡ true → size_verdict nodes (object_minimum schemas s) (object_maximum schemas s) n ≡ fine → keys_verdict pool texts nodes links n ≡ fine → before_entries pool texts nodes schemas links s n ≡ fine
+  unfolding HasRequired before_entries object_verdict
+  object_fine ki re held si keys = rw (eq-eqb (node_kind nodes n) 6 ki, keys, re held pool texts) si

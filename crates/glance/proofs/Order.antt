@@ -11,22 +11,20 @@ use Rattle.text.specs.Choice.{either, le_or_lt, not-holds, both_right, either_ca
 use Rattle.text.specs.Text.{text_of, same_bytes, same_text}
 use Rattle.text.proofs.Bytes.{same_sound}
 use Rattle.layout.specs.Layout.{node_kind, node_b, pair_key}
-use Rattle.lookup.specs.declared.Found.{Found}
-use Rattle.lookup.specs.declared.Found.TheVariants.{At, Nothing}
-use Rattle.lookup.specs.Find.{first_from}
+use Rattle.lookup.specs.Find.{Found, first_from}
+use Rattle.std.specs.Prelude.{Some, None}
 use Rattle.lookup.specs.Lookup.{key_is, entry_key, entry_has_key, pair_has_key, property_place}
 use Rattle.lookup.proofs.Find.{found_where, found_nowhere}
-use Rattle.judge.specs.declared.Verdict.TheVariants.{Fine}
-use Rattle.judge.specs.Judge.{key_text, duplicate_wrong, has_earlier, is_duplicate, keys_verdict}
+use Rattle.judge.specs.Judge.{fine, key_text, duplicate_wrong, has_earlier, is_duplicate, keys_verdict}
 
 place_of : Found → ℕ
-place_of (At p) = p
-place_of Nothing = 0
+place_of (Some p) = p
+place_of None = 0
 
 -- ---- places that rise
 -- the first k keys have their places, none beyond last, and none is a duplicate
 pub record InOrder (pool texts nodes links : List ℕ) (n first count k last : ℕ) : Type 0 where
-  pub places : (j : ℕ) → j < k → (p : ℕ) × (property_place pool texts links first count (key_text nodes links n j) ≡ At p) × (p ≤ last)
+  pub places : (j : ℕ) → j < k → (p : ℕ) × (property_place pool texts links first count (key_text nodes links n j) ≡ Some p) × (p ≤ last)
   pub new : (j : ℕ) → j < k → is_duplicate pool texts nodes links n j ≡ false
 
 module _ (pool texts nodes links : List ℕ) (n first count : ℕ) where
@@ -45,7 +43,7 @@ module _ (pool texts nodes links : List ℕ) (n first count : ℕ) where
   pub order_begin : (last : ℕ) → InOrder pool texts nodes links n first count 0 last
   order_begin last = record { places = λ j l. absurd (omega arith); new = λ j l. absurd (omega arith) }
 
-  module _ (k last p : ℕ) (before : InOrder pool texts nodes links n first count k last) (at : property_place pool texts links first count (key_text nodes links n k) ≡ At p) (rises : either (eqb k 0) (ltb last p) ≡ true) where
+  module _ (k last p : ℕ) (before : InOrder pool texts nodes links n first count k last) (at : property_place pool texts links first count (key_text nodes links n k) ≡ Some p) (rises : either (eqb k 0) (ltb last p) ≡ true) where
     -- beyond every earlier place
     beyond : (j : ℕ) → j < k → last < p
     beyond j l =
@@ -71,7 +69,7 @@ module _ (pool texts nodes links : List ℕ) (n first count : ℕ) where
           new = λ j l. ⊎_elim (λ g. let e : j ≡ k = omega arith in ap (is_duplicate pool texts nodes links n) e ∙ new_key) (λ g. before.new j g) (le_or_lt k j);
         }
 
-  pub order_end : (last : ℕ) → InOrder pool texts nodes links n first count (node_b nodes n) last → keys_verdict pool texts nodes links n ≡ Fine
+  pub order_end : (last : ℕ) → InOrder pool texts nodes links n first count (node_b nodes n) last → keys_verdict pool texts nodes links n ≡ fine
   unfolding keys_verdict
   order_end last o =
       ap (duplicate_wrong nodes links n) (found_nowhere (is_duplicate pool texts nodes links n) 0 (node_b nodes n) (λ j l. o.new j (omega arith)))

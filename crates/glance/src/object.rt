@@ -1,52 +1,37 @@
 // An object before its entries.
 ghost use Rattle.std.specs.Prelude.{◌≡◌};
+ghost use Rattle.layout.specs.Lent.{tables_of};
 ghost use Rattle.judge.specs.Judge.{keys_verdict, before_entries};
 ghost use Rattle.glance.specs.Glance.{PassesBut, HasKey, HasRequired, numbered};
 
-use layout::{schema as fields, words};
+use layout::{Tables, node};
 
 // Whether a node is a string of that text number.
-pub fn is_numbered(nodes: &[u32], n: u32, t: u32) -> bool
-    ensures { result ≡ numbered nodes.now t n }
+#[tactic(auto, unfolding(crate::specs::Glance::numbered))]
+pub fn is_numbered(t: &Tables, n: u32, text: u32) -> bool
+    ensures { let T = tables_of t.now in result ≡ numbered T.nodes text n }
 {
-    if words::node_kind(nodes, n) == 4 {
-        return words::node_a(nodes, n) == t;
-    }
-    false
+    t.node_kind(n) == node::STRING && t.node_a(n) == text
 }
 
 // Whether an entry of the object has that text number for its key; place k is tried first, where a file keeps its schema's order.
-fn has_number(nodes: &[u32], links: &[u32], n: u32, t: u32, k: u32) -> bool
-    ensures { HasKey result nodes.now links.now n t }
+fn has_number(t: &Tables, n: u32, text: u32, k: u32) -> bool
+    ensures { let T = tables_of t.now in HasKey result T.nodes T.links n text }
 {
-    let count = words::node_b(nodes, n);
-    if k < count {
-        if is_numbered(nodes, lookup::entry_key(nodes, links, n, k), t) {
-            return true;
-        }
-    }
-    let mut i = 0;
-    while i < count {
-        if is_numbered(nodes, lookup::entry_key(nodes, links, n, i), t) {
-            return true;
-        }
-        i += 1;
-    }
-    false
+    let count = t.node_b(n);
+    let has = |i: u32| is_numbered(t, lookup::entry_key(t, n, i), text);
+    (k < count && has(k)) || (0..count).any(|i| has(i))
 }
 
 // Whether each required text is, by its number, the key of an entry.
-fn required_pass(nodes: &[u32], schemas: &[u32], links: &[u32], n: u32, s: u32) -> bool
-    ensures { HasRequired result nodes.now schemas.now links.now n s }
+fn required_pass(t: &Tables, n: u32, s: u32) -> bool
+    ensures { let T = tables_of t.now in HasRequired result T.nodes T.schemas T.links n s }
 {
-    let first = fields::required_first(schemas, s);
-    let count = fields::required_count(schemas, s);
-    let mut i = 0;
-    while i < count {
-        let t = text::word(links, (first as usize) + (i as usize));
-        if has_number(nodes, links, n, t, i) {
-            i += 1;
-        } else {
+    let first = t.required_first(s);
+    let count = t.required_count(s);
+    for i in 0..count {
+        let text = t.link(first, i);
+        if !has_number(t, n, text, i) {
             return false;
         }
     }
@@ -54,21 +39,11 @@ fn required_pass(nodes: &[u32], schemas: &[u32], links: &[u32], n: u32, s: u32) 
 }
 
 // Type, required texts by number, counts: all that comes before the entries, but for duplicate keys.
-pub fn object_passes(
-    pool: &[u8],
-    texts: &[u32],
-    nodes: &[u32],
-    schemas: &[u32],
-    links: &[u32],
-    n: u32,
-    s: u32,
-) -> bool
-    ensures { PassesBut result (keys_verdict pool.now texts.now nodes.now links.now n) (before_entries pool.now texts.now nodes.now schemas.now links.now s n) }
+#[tactic(auto, using(crate::proofs::Keys::object_fine, crate::proofs::Says::is_fine_lem), unfolding(crate::specs::Glance::PassesBut))]
+pub fn object_passes(t: &Tables, n: u32, s: u32) -> bool
+    ensures { let T = tables_of t.now in
+        PassesBut result (keys_verdict T.pool T.texts T.nodes T.links n)
+        (before_entries T.pool T.texts T.nodes T.schemas T.links s n) }
 {
-    if words::node_kind(nodes, n) == 6 {
-        if required_pass(nodes, schemas, links, n, s) {
-            return judge::is_fine(objects::check_size(nodes, schemas, n, s));
-        }
-    }
-    false
+    t.node_kind(n) == node::OBJECT && required_pass(t, n, s) && objects::check_size(t, n, s).is_ok()
 }

@@ -13,8 +13,9 @@ use Rattle.error.specs.Answers.{answer_of, plain_answer, refusal_of}
 use Rattle.error.specs.Paths.{Step, instance_buffer, levels}
 use Rattle.error.proofs.Paths.{kinds-back}
 use Rattle.layout.specs.Layout.{Tables, node_count, schema_count}
-use Rattle.tables.specs.declared.check.Fault.{Fault}
-use Rattle.tables.specs.declared.check.Fault.TheVariants.{Sound, Bad}
+use Rattle.std.specs.Prelude.{Ok, Err}
+use Rattle.tables.specs.Found.{Fault, Sound}
+use Rattle.tables.proofs.Numbers.{failure_number, Twenty, tables_twenty}
 use Rattle.tables.specs.Check.{tables_fault}
 use Rattle.validator.specs.Outcome.{Error, Outcome, accepted, refused, invalid, ended}
 use Rattle.validator.specs.Validate.{instance_words, schema_step_words, visit_of, Validated, empty_handed, answered, checked_first, validate_of}
@@ -35,14 +36,14 @@ module _ (T : Tables) (mode : Mode) (node s i k : ℕ) where
   past_places true v h c = h c
   past_places false v h c = absurd (c.places (unfold answer_of in refl))
 
-  past_tables : (f : Fault) (v : Validated) → (Comes v → v ≡ visited) → Comes (checked_first f i k v) → checked_first f i k v ≡ visited
-  past_tables Sound v h c = h c
-  past_tables (Bad table n) v h c = absurd (c.tables (unfold answer_of in refl))
+  past_tables : (f : Fault) → Twenty f → (v : Validated) → (Comes v → v ≡ visited) → Comes (checked_first f i k v) → checked_first f i k v ≡ visited
+  past_tables (Ok u) w v h c = h c
+  past_tables (Err failure) w v h c = absurd (c.tables (failure_number failure ∙ w))
 
   call_visits : Comes (validate_of T mode node s i k) → validate_of T mode node s i k ≡ visited
   unfolding validate_of
   call_visits =
-      past_tables (tables_fault T) _
+      past_tables (tables_fault T) (tables_twenty T) _
       (past_places (ltb node (node_count T.nodes)) _
       (past_places (ltb s (schema_count T.schemas)) _ (past_buffers (either (ltb i instance_words) (ltb k schema_step_words)))))
 

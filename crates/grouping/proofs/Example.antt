@@ -16,9 +16,9 @@ use Rattle.layout.specs.Walk.{every, first}
 use Rattle.lists.specs.Lists.{optional_below, link_below, list_below, pair_ok, keys_differ, key_is_new, keys_distinct, pairs_below, pairs_ok}
 use Rattle.records.specs.Records.{counts_in, text_ok, plain_node_ok, place_node_ok, list_node_ok, node_rule, node_ok, note_ok, entry_ok, pattern_ok}
 use Rattle.rules.specs.Schemas.{unused_at, unused_from, schema_note_ok, bases_ok, object_pairs_ok, object_words_ok, object_ok, string_ok, array_ok, ref_ok, schema_rule, schema_ok}
-use Rattle.tables.specs.declared.check.Fault.TheVariants.{Sound}
+use Rattle.tables.specs.Found.{Sound}
 use Rattle.tables.specs.Check.{whole_size, size_or, texts_size, sizes_fault, record_count, record_ok, first_bad, records_from, records_fault, lent_fault, tables_fault}
-use Rattle.lookup.specs.declared.Found.TheVariants.{At, Nothing}
+use Rattle.std.specs.Prelude.{Some, None}
 use Rattle.text.specs.Choice.{pick}
 use Rattle.lookup.specs.Find.{first_from, last_below, found_at, to_option}
 use Rattle.lookup.specs.Lookup.{entry_key, entry_value, entry_is_named, resolve_of, find_in}
@@ -138,7 +138,7 @@ pub names_alike : {Q : ℕ → ℕ → Type 0} → Q 7 8 → (t : ℕ) → Maybe
 unfolding T T' find_in resolve_of last_below entry_is_named entry_count registry_word
 names_alike {Q} q t = at (same_text T.pool T.texts 1 t)
   where
-    at : (b : Bool) → Maybe Q (to_option (found_at (entry_schema (1 ∷ 7 ∷ [])) (pick b (At 0) Nothing))) (to_option (found_at (entry_schema (1 ∷ 8 ∷ [])) (pick b (At 0) Nothing)))
+    at : (b : Bool) → Maybe Q (to_option (found_at (entry_schema (1 ∷ 7 ∷ [])) (pick b (Some 0) None))) (to_option (found_at (entry_schema (1 ∷ 8 ∷ [])) (pick b (Some 0) None)))
     at true = both q
     at false = neither
 

@@ -14,7 +14,7 @@ use Rattle.error.specs.declared.Mode.{Mode}
 use Rattle.error.specs.Paths.{levels}
 use Rattle.layout.specs.Layout.{Tables, schema_count}
 use Rattle.lookup.specs.Lookup.{answer_of_pattern, find_in}
-use Rattle.tables.specs.declared.check.Fault.TheVariants.{Sound}
+use Rattle.tables.specs.Found.{Sound}
 use Rattle.tables.specs.Check.{tables_fault}
 use Rattle.schema.specs.Look.{Words, words_of, look}
 use Rattle.validator.specs.Outcome.{Outcome}

@@ -9,9 +9,10 @@ use Rattle.text.specs.Choice.{pick}
 use Rattle.error.specs.declared.Detail.{Detail}
 use Rattle.error.specs.declared.Detail.TheVariants.{Property}
 use Rattle.error.specs.Paths.{Step}
+use Rattle.judge.specs.Judge.{Verdict}
 use Rattle.schema.specs.Shape.{Note, Pair, Shape, plain, any_of, all_of, array, object, ref}
-use Rattle.judge.specs.declared.Verdict.{Verdict}
-use Rattle.judge.specs.declared.Verdict.TheVariants.{Fine, Wrong, BadPattern, Unanswered}
+use Rattle.std.specs.Prelude.{Ok, Err}
+use Rattle.judge.specs.declared.Wrong.TheVariants.{Value, BadPattern, Unanswered}
 use Rattle.validator.specs.Outcome.{Error, made, kinded, placed}
 use Rattle.validator.specs.Visit.{Nodes, number_or, visit_at}
 use Rattle.grouping.specs.Tree.{flat_list, map_option, Every, nil, one, EveryPair, nil_pair, one_pair, Perhaps, absent, present, PerhapsEvery, absents, presents, Children, in_plain, in_any, in_all, in_array, in_object, in_ref, Ordered}
@@ -25,10 +26,10 @@ abbrev pub Any : Detail → Type 0
 Any d = Unit {0}
 
 any_says : (v : Verdict) → Says Any v
-any_says Fine = says_fine
-any_says (Wrong number node d) = says_wrong tt
-any_says BadPattern = says_bad
-any_says Unanswered = says_unanswered
+any_says (Ok u) = says_fine
+any_says (Err (Value why node d)) = says_wrong tt
+any_says (Err BadPattern) = says_bad
+any_says (Err Unanswered) = says_unanswered
 
 pub any_quiet : (D : Nodes) → Quiet Any D
 any_quiet D = record { judge = λ w n. any_says (D.judge w n); counted = λ a b n. any_says (D.counted a b n); object_first = λ n. any_says (D.object_first n) }

@@ -12,12 +12,12 @@ use Rattle.error.specs.declared.Mode.{Mode}
 use Rattle.error.specs.Paths.{key_step, item_step}
 use Rattle.error.specs.declared.Detail.TheVariants.{Property}
 use Rattle.layout.specs.Layout.{Tables, node_kind, node_a, node_b}
-use Rattle.lookup.specs.declared.Found.{Found}
+use Rattle.lookup.specs.Find.{Found}
 use Rattle.schema.specs.Shape.{Note, Own, Object, Shape, plain, any_of, all_of, array, object, ref}
 use Rattle.schema.specs.Look.{Words, detecting, sort_shape, raw, look}
-use Rattle.judge.specs.declared.Verdict.{Verdict}
-use Rattle.judge.specs.declared.Verdict.TheVariants.{Fine, Wrong, BadPattern, Unanswered}
-use Rattle.judge.specs.Judge.{boolean_verdict, number_verdict, string_verdict, null_verdict, array_verdict, object_verdict, judge_of}
+use Rattle.std.specs.Prelude.{Ok, Err}
+use Rattle.judge.specs.declared.Wrong.TheVariants.{Value, BadPattern, Unanswered}
+use Rattle.judge.specs.Judge.{Verdict, fine, boolean_verdict, number_verdict, string_verdict, null_verdict, array_verdict, object_verdict, judge_of}
 use Rattle.validator.specs.Outcome.{Outcome, accepted, refused, invalid, ended, made, under, place, and_then, any_step, verdict, Error}
 use Rattle.validator.specs.Visit.{Entry, Nodes, find_pair, all_over, any_over, items_over, number_or, required_over, extra_at, property_at, entry_at, entries_over, object_at, array_at, ref_at, visit_body, visit_at}
 use Rattle.validator.specs.Nodes.{entry_of, entries_from, nodes_of}
@@ -41,15 +41,15 @@ module _ (T : Tables) (t : Words) (registry : List ℕ) (L : SameValues T.nodes 
       (pick (eqb w.kind 2) (number_verdict T.nodes T.numbers w.words n)
       (pick (eqb w.kind 3) (string_verdict mode answer T.pool T.texts T.nodes w.words n)
       (pick (eqb w.kind 4) (null_verdict T.nodes n)
-      (pick (eqb w.kind 5) x (pick (eqb w.kind 9) y Fine))))))
+      (pick (eqb w.kind 5) x (pick (eqb w.kind 9) y fine))))))
       (enum_same T.nodes T.links t.links L T.pool T.texts T.numbers mode w.words n)
       (array_same T.nodes T.links t.links L T.pool T.texts T.numbers mode w.words n)
 
-  array_kind : (w : Own) (n : ℕ) → w.kind ≡ 9 → judge_of T mode answer w n ≡ Fine → node_kind T.nodes n ≡ 5
+  array_kind : (w : Own) (n : ℕ) → w.kind ≡ 9 → judge_of T mode answer w n ≡ fine → node_kind T.nodes n ≡ 5
   unfolding judge_of array_verdict
   array_kind w n e h = fine_kind T.nodes 5 9 n _ (rw e at h)
 
-  object_kind : (n : ℕ) → object_verdict T.pool T.texts T.nodes T.links n ≡ Fine → node_kind T.nodes n ≡ 6
+  object_kind : (n : ℕ) → object_verdict T.pool T.texts T.nodes T.links n ≡ fine → node_kind T.nodes n ≡ 6
   unfolding object_verdict
   object_kind n h = fine_kind T.nodes 6 10 n _ h
 
@@ -79,11 +79,11 @@ module _ (T : Tables) (t : Words) (registry : List ℕ) (L : SameValues T.nodes 
   }
 
 -- ---- a visit over alike nodes
-then_same : (v : Verdict) (s : ℕ) (note : Option Note) {r r' : Outcome} → (v ≡ Fine → r ≡ r') → and_then (verdict v s note) r ≡ and_then (verdict v s note) r'
-then_same Fine s note h = h refl
-then_same (Wrong number node d) s note h = refl
-then_same BadPattern s note h = refl
-then_same Unanswered s note h = refl
+then_same : (v : Verdict) (s : ℕ) (note : Option Note) {r r' : Outcome} → (v ≡ fine → r ≡ r') → and_then (verdict v s note) r ≡ and_then (verdict v s note) r'
+then_same (Ok u) s note h = h refl
+then_same (Err (Value why node d)) s note h = refl
+then_same (Err BadPattern) s note h = refl
+then_same (Err Unanswered) s note h = refl
 
 all_same : {A : Type 0} (f g : A → Outcome) → ((x : A) → f x ≡ g x) → (xs : List A) → all_over f xs ≡ all_over g xs
 unfolding all_over
@@ -110,7 +110,7 @@ items_same f g h i [] = refl
 items_same f g h i (x ∷ xs) = ap₂ and_then (ap (place (item_step i)) (h x)) (items_same f g h (i + 1) xs)
 
 module _ (D D' : Nodes) (A : NodesAlike D D') (look : ℕ → Shape ℕ) (nine : (s : ℕ) (w : Own) (x : Option ℕ) → look s ≡ array w x → w.kind ≡ 9) (find : ℕ → Option ℕ) where
-  required_same : (s : ℕ) (o : Object ℕ) (n : ℕ) → D.object_first n ≡ Fine → (ts : List ℕ) → required_over D self s o n ts ≡ required_over D' self s o n ts
+  required_same : (s : ℕ) (o : Object ℕ) (n : ℕ) → D.object_first n ≡ fine → (ts : List ℕ) → required_over D self s o n ts ≡ required_over D' self s o n ts
   unfolding required_over
   required_same s o n h [] = refl
   required_same s o n h (t ∷ ts) = λ i.
@@ -144,7 +144,7 @@ module _ (D D' : Nodes) (A : NodesAlike D D') (look : ℕ → Shape ℕ) (nine :
         (entries_same s o n (D.entries n) ∙ ap (entries_over D' self go' s o n) (A.entries n h)))) ∙
         ap (λ (v : Verdict). and_then (verdict v s o.note) (and_then (required_over D' self s o n o.required) (and_then (verdict (D'.counted o.least o.most n) s o.note) (entries_over D' self go' s o n (D'.entries n))))) (A.object_first n)
 
-    array_visits : (w : Own) (x : Option ℕ) (n : ℕ) → w.kind ≡ 9 → D.judge w n ≡ Fine → array_at D self go x n ≡ array_at D' self go' x n
+    array_visits : (w : Own) (x : Option ℕ) (n : ℕ) → w.kind ≡ 9 → D.judge w n ≡ fine → array_at D self go x n ≡ array_at D' self go' x n
     unfolding array_at
     array_visits w none n e h = refl
     array_visits w (some x) n e h = items_same (λ m. go m x) (λ m. go' m x) (λ m. H m x) 0 (D.items n) ∙ ap (items_over (λ m. go' m x) 0) (A.items w n e h)

@@ -8,11 +8,14 @@ use mathlib.Core.Option.{Option, some, none}
 use native.Mathlib.Omega.{arith}
 use Rattle.text.specs.Choice.{pick}
 use Rattle.error.specs.declared.Detail.{Detail}
+use Rattle.error.specs.declared.Reason.{Reason}
+use Rattle.error.specs.Answers.{reason_number}
 use Rattle.error.specs.declared.Detail.TheVariants.{Property, Key, Reference}
 use Rattle.error.specs.Paths.{Step, key_step, item_step}
+use Rattle.judge.specs.Judge.{Verdict, fine}
 use Rattle.schema.specs.Shape.{Note, Pair, Own, Object, Shape, plain, any_of, all_of, array, object, ref}
-use Rattle.judge.specs.declared.Verdict.{Verdict}
-use Rattle.judge.specs.declared.Verdict.TheVariants.{Fine, Wrong, BadPattern, Unanswered}
+use Rattle.std.specs.Prelude.{Err}
+use Rattle.judge.specs.declared.Wrong.TheVariants.{Value, BadPattern, Unanswered}
 use Rattle.grouping.specs.Regrouped.{Each, stop, also, Maybe, neither, both, Pairs, end_pairs, pair}
 use Rattle.validator.specs.Outcome.{Error, Outcome, accepted, refused, invalid, ended, made, kinded, placed, under, place, and_then, first_of, any_end, any_step, verdict}
 use Rattle.validator.specs.Visit.{Entry, find_pair, Nodes, all_over, any_over, items_over, number_or, required_over, extra_at, property_at, entry_at, entries_over, object_at, array_at, ref_at, visit_body, visit_at}
@@ -28,10 +31,10 @@ pub record Erasure (K : Type 0) (silent : Detail → Type 0) : Type 0 where
 
 -- what a record's own words say of a node, with such a detail
 pub data Says (silent : Detail → Type 0) : Verdict → Type 0 where
-  says_fine : Says silent Fine
-  says_wrong : {number node : ℕ} {d : Detail} → silent d → Says silent (Wrong number node d)
-  says_bad : Says silent BadPattern
-  says_unanswered : Says silent Unanswered
+  says_fine : Says silent fine
+  says_wrong : {why : Reason} {node : ℕ} {d : Detail} → silent d → Says silent (Err (Value why node d))
+  says_bad : Says silent (Err BadPattern)
+  says_unanswered : Says silent (Err Unanswered)
 
 pub record Quiet (silent : Detail → Type 0) (D : Nodes) : Type 0 where
   pub judge : (w : Own) (n : ℕ) → Says silent (D.judge w n)
@@ -149,7 +152,7 @@ module _ {K : Type 0} {silent : Detail → Type 0} (D : Nodes) (quiet : Quiet si
 
   verdicts : {s : S} {u : U} → R s u → {v : Verdict} → Says silent v → (a b : Option Note) → a ≡ b → Below E (verdict v (who s) a) (verdict v (who' u) b)
   verdicts r says_fine a b e = accepts
-  verdicts r (says_wrong {number = k} {node = n} {d = d} q) a b e = rw e (refuses (Z.tells r k n b d q))
+  verdicts r (says_wrong {why = why} {node = n} {d = d} q) a b e = rw e (refuses (Z.tells r (reason_number why) n b d q))
   verdicts r says_bad a b e = invalids
   verdicts r says_unanswered a b e = ends
 

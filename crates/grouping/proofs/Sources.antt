@@ -9,7 +9,7 @@ use Rattle.text.specs.Text.{same_text}
 use Rattle.error.specs.Paths.{levels}
 use Rattle.layout.specs.Layout.{Tables, schema_count}
 use Rattle.lookup.specs.Lookup.{find_in}
-use Rattle.tables.specs.declared.check.Fault.TheVariants.{Sound}
+use Rattle.tables.specs.Found.{Sound}
 use Rattle.tables.specs.Check.{tables_fault}
 use Rattle.schema.specs.Shape.{Pair, Names, nameless, detects, named, Object, Shape, plain, any_of, all_of, array, object, ref}
 use Rattle.schema.specs.Look.{Words, words_of, look, bases}

@@ -13,9 +13,8 @@ use Rattle.number.specs.Pattern.{finite_of}
 use Rattle.error.specs.declared.Mode.{Mode}
 use Rattle.error.specs.declared.Detail.TheVariants.{Empty, Key}
 use Rattle.layout.specs.Layout.{NONE, node_kind, node_a, node_b, pair_key, pair_value}
-use Rattle.lookup.specs.declared.Found.{Found}
-use Rattle.lookup.specs.declared.Found.TheVariants.{At, Nothing}
-use Rattle.lookup.specs.Find.{first_from, last_below, found}
+use Rattle.lookup.specs.Find.{Found, first_from, last_below, found}
+use Rattle.std.specs.Prelude.{Some, None}
 use Rattle.lookup.specs.Lookup.{key_is, entry_key, entry_value, item_node, entry_has_key, last_entry}
 use Rattle.json_equality.specs.declared.shape.Shape as shape
 use Rattle.json_equality.specs.declared.shape.Shape.TheVariants as variants
@@ -24,22 +23,23 @@ use Rattle.json_equality.specs.Json as json
 use Rattle.json_equality.specs.Value.{real_shape, parsed_shape, shape_by, shape_of, items_from, keyed, fields_from, json_of, value_at, value_of, equal_nodes_of}
 use Rattle.schema.specs.Shape.{Own}
 use Rattle.schema.specs.Look.{slice}
-use Rattle.judge.specs.declared.Verdict.{Verdict}
-use Rattle.judge.specs.declared.Verdict.TheVariants.{Fine, Wrong}
-use Rattle.judge.specs.Judge.{enum_way, unique_way, count_verdict, first_wrong, mismatch, is_listed, any_repeated, enum_verdict, items_of, unique_verdict, array_verdict, key_text, duplicate_wrong, has_earlier, is_duplicate, keys_verdict, object_verdict, has_key}
+use Rattle.std.specs.Prelude.{Err}
+use Rattle.judge.specs.declared.Wrong.TheVariants.{Value}
+use Rattle.error.specs.declared.Reason.TheVariants as reason
+use Rattle.judge.specs.Judge.{Verdict, fine, enum_way, unique_way, count_verdict, first_wrong, mismatch, is_listed, any_repeated, enum_verdict, items_of, unique_verdict, array_verdict, key_text, duplicate_wrong, has_earlier, is_duplicate, keys_verdict, object_verdict, has_key}
 use Rattle.validator.specs.Outcome.{place}
 use Rattle.validator.specs.Visit.{Nodes}
 use Rattle.grouping.specs.Values.{SameValues}
 
 -- searches whose tests agree
-first_same : {A : Type 0} (f g : ℕ → Bool) (h k : Found → A) (i n : ℕ) → ((j : ℕ) → i ≤ j → j < i + n → f j ≡ g j) → ((j : ℕ) → i ≤ j → j < i + n → h (At j) ≡ k (At j)) → h Nothing ≡ k Nothing →
+first_same : {A : Type 0} (f g : ℕ → Bool) (h k : Found → A) (i n : ℕ) → ((j : ℕ) → i ≤ j → j < i + n → f j ≡ g j) → ((j : ℕ) → i ≤ j → j < i + n → h (Some j) ≡ k (Some j)) → h None ≡ k None →
     h (first_from f i n) ≡ k (first_from g i n)
 unfolding first_from
 first_same f g h k i zero p q e = e
 first_same {A} f g h k i (suc n) p q e =
     at (f i) (g i) (p i (omega arith) (omega arith)) (first_same f g h k (suc i) n (λ j a b. p j (omega arith) (omega arith)) (λ j a b. q j (omega arith) (omega arith)) e)
   where
-    at : (b c : Bool) → b ≡ c → h (first_from f (suc i) n) ≡ k (first_from g (suc i) n) → h (pick b (At i) (first_from f (suc i) n)) ≡ k (pick c (At i) (first_from g (suc i) n))
+    at : (b c : Bool) → b ≡ c → h (first_from f (suc i) n) ≡ k (first_from g (suc i) n) → h (pick b (Some i) (first_from f (suc i) n)) ≡ k (pick c (Some i) (first_from g (suc i) n))
     at true true r rest = q i (omega arith) (omega arith)
     at false false r rest = rest
     at true false r rest = absurd (let z : ◌≡◌ {A = ℕ} 0 1 = cc in omega arith)
@@ -48,7 +48,7 @@ first_same {A} f g h k i (suc n) p q e =
 last_same : (f g : ℕ → Bool) (n : ℕ) → ((j : ℕ) → j < n → f j ≡ g j) → last_below f n ≡ last_below g n
 unfolding last_below
 last_same f g zero p = refl
-last_same f g (suc n) p = ap₂ (λ (b : Bool) (x : Found). pick b (At n) x) (p n (omega arith)) (last_same f g n (λ j i. p j (omega arith)))
+last_same f g (suc n) p = ap₂ (λ (b : Bool) (x : Found). pick b (Some n) x) (p n (omega arith)) (last_same f g n (λ j i. p j (omega arith)))
 
 module _ (nodes links links' : List ℕ) (L : SameValues nodes links links') where
   item_same : (n k : ℕ) → node_kind nodes n ≡ 5 → k < node_b nodes n → item_node nodes links n k ≡ item_node nodes links' n k
@@ -146,19 +146,19 @@ module _ (nodes links links' : List ℕ) (L : SameValues nodes links links') whe
 
     pub enum_same : (words : List ℕ) (n : ℕ) → enum_verdict mode pool texts nodes links numbers words n ≡ enum_verdict mode pool texts nodes links' numbers words n
     unfolding enum_verdict
-    enum_same words n = ap (λ (b : Bool). pick b Fine (Wrong 4 n Empty)) (listed_same pool texts numbers (enum_way mode) n words)
+    enum_same words n = ap (λ (b : Bool). pick b fine (Err (Value reason.NotInEnum n Empty))) (listed_same pool texts numbers (enum_way mode) n words)
 
     unique_same : (unique n : ℕ) → node_kind nodes n ≡ 5 → unique_verdict mode pool texts nodes links numbers unique n ≡ unique_verdict mode pool texts nodes links' numbers unique n
     unfolding unique_verdict
     unique_same unique n e =
-        ap (λ (b : Bool). pick (eqb unique 1) (pick b (Wrong 10 n Empty) Fine) Fine)
+        ap (λ (b : Bool). pick (eqb unique 1) (pick b (Err (Value reason.NotUnique n Empty)) fine) fine)
         (repeated_same pool texts numbers (unique_way mode) (items_of nodes links n) ∙ ap (any_repeated (unique_way mode) pool texts nodes links' numbers) (items_list n e))
 
     pub array_same : (words : List ℕ) (n : ℕ) → array_verdict mode pool texts nodes links numbers words n ≡ array_verdict mode pool texts nodes links' numbers words n
     unfolding array_verdict
     array_same words n =
         choice_same (eqb (node_kind nodes n) 5)
-        (λ t. ap (first_wrong (count_verdict 9 n (get_or words 0 0) (get_or words 1 0) (node_b nodes n))) (unique_same (get_or words 2 0) n (eqb-true (node_kind nodes n) 5 t)))
+        (λ t. ap (first_wrong (count_verdict reason.ArrayLength n (get_or words 0 0) (get_or words 1 0) (node_b nodes n))) (unique_same (get_or words 2 0) n (eqb-true (node_kind nodes n) 5 t)))
         refl
 
   module _ (pool texts : List ℕ) where
@@ -182,7 +182,7 @@ module _ (nodes links links' : List ℕ) (L : SameValues nodes links links') whe
     unfolding keys_verdict
     keys_same n e =
         first_same (is_duplicate pool texts nodes links n) (is_duplicate pool texts nodes links' n) (duplicate_wrong nodes links n) (duplicate_wrong nodes links' n) 0 (node_b nodes n)
-        (λ j a b. duplicate_same n e j (omega arith)) (λ j a b. ap (λ (x : ℕ). Wrong 13 x (Key (node_a nodes x))) (key_same n j e (omega arith))) refl
+        (λ j a b. duplicate_same n e j (omega arith)) (λ j a b. ap (λ (x : ℕ). Err (Value reason.DuplicateKey x (Key (node_a nodes x)))) (key_same n j e (omega arith))) refl
 
     pub object_same : (n : ℕ) → object_verdict pool texts nodes links n ≡ object_verdict pool texts nodes links' n
     unfolding object_verdict
@@ -198,14 +198,14 @@ module _ (nodes links links' : List ℕ) (L : SameValues nodes links links') whe
         ap found (last_same (entry_has_key pool texts nodes links n text) (entry_has_key pool texts nodes links' n text) (node_b nodes n) (λ j i. has_key_same n text e j i))
 
 -- a verdict that is fine tells the kind
-mismatch-not : (nodes : List ℕ) (expected n : ℕ) → mismatch nodes expected n ≡ Fine → ⊥
+mismatch-not : (nodes : List ℕ) (expected n : ℕ) → mismatch nodes expected n ≡ fine → ⊥
 unfolding mismatch
 mismatch-not nodes expected n h = absurd (let z : ◌≡◌ {A = ℕ} 0 1 = cc in omega arith)
 
-pub fine_kind : (nodes : List ℕ) (kind expected n : ℕ) (v : Verdict) → pick (eqb (node_kind nodes n) kind) v (mismatch nodes expected n) ≡ Fine → node_kind nodes n ≡ kind
+pub fine_kind : (nodes : List ℕ) (kind expected n : ℕ) (v : Verdict) → pick (eqb (node_kind nodes n) kind) v (mismatch nodes expected n) ≡ fine → node_kind nodes n ≡ kind
 fine_kind nodes kind expected n v = at (eqb (node_kind nodes n) kind) refl
   where
-    at : (b : Bool) → eqb (node_kind nodes n) kind ≡ b → pick b v (mismatch nodes expected n) ≡ Fine → node_kind nodes n ≡ kind
+    at : (b : Bool) → eqb (node_kind nodes n) kind ≡ b → pick b v (mismatch nodes expected n) ≡ fine → node_kind nodes n ≡ kind
     at true t h = eqb-true (node_kind nodes n) kind t
     at false t h = absurd (mismatch-not nodes expected n h)
 
@@ -215,6 +215,6 @@ pub record NodesAlike (D D' : Nodes) : Type 0 where
   pub judge : (w : Own) (n : ℕ) → D.judge w n ≡ D'.judge w n
   pub counted : (least most n : ℕ) → D.counted least most n ≡ D'.counted least most n
   pub object_first : (n : ℕ) → D.object_first n ≡ D'.object_first n
-  pub items : (w : Own) (n : ℕ) → w.kind ≡ 9 → D.judge w n ≡ Fine → D.items n ≡ D'.items n
-  pub has : (n t : ℕ) → D.object_first n ≡ Fine → D.has n t ≡ D'.has n t
-  pub entries : (n : ℕ) → D.object_first n ≡ Fine → D.entries n ≡ D'.entries n
+  pub items : (w : Own) (n : ℕ) → w.kind ≡ 9 → D.judge w n ≡ fine → D.items n ≡ D'.items n
+  pub has : (n t : ℕ) → D.object_first n ≡ fine → D.has n t ≡ D'.has n t
+  pub entries : (n : ℕ) → D.object_first n ≡ fine → D.entries n ≡ D'.entries n

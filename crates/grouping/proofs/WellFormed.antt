@@ -12,18 +12,17 @@ use borrow.Author.Tests.{eqb-true, eqb-false, ne_eqb}
 use Rattle.text.specs.Choice.{pick, both, either, both_left, both_right, le_or_lt}
 use Rattle.text.specs.Text.{text_count}
 use Rattle.layout.specs.Layout.{Tables, NONE, node_word, node_kind, node_a, node_count, entry_count, entry_schema, note_count, schema_count, schema_word, schema_kind, schema_note, number_minimum, number_maximum, number_exclusive_minimum, number_exclusive_maximum, number_multiple, string_pattern, array_unique, ref_text, ref_eager, list_first, list_count, array_items, properties_first, properties_count, pattern_properties_first, pattern_properties_count, additional_properties, property_names, bases_first, bases_count, pair_value}
-use Rattle.lookup.specs.declared.Found.{Found}
-use Rattle.lookup.specs.declared.Found.TheVariants.{At}
-use Rattle.lookup.specs.Find.{last_below, found_at, to_option}
+use Rattle.lookup.specs.Find.{Found, last_below, found_at, to_option}
+use Rattle.std.specs.Prelude.{Some}
 use Rattle.lookup.specs.Lookup.{entry_is_named, resolve_of, find_in}
-use Rattle.text.proofs.Texts.{past_end}
+use Rattle.text.proofs.Parts.{past_end}
 use Rattle.grouping.specs.Values.{SameValues}
 use Rattle.records.specs.declared.Counts.{Counts}
 use Rattle.records.specs.Records.{counts_of}
 use Rattle.rules.specs.Schemas.{unused_at, unused_from, true_ok, number_ok, string_ok, list_ok, array_ok, object_ok, ref_ok, schema_note_ok, schema_rule, schema_ok}
 use Rattle.lists.specs.Lists.{optional_below, list_below}
 use Rattle.lists.proofs.Walked.{every_at}
-use Rattle.tables.specs.declared.check.Fault.TheVariants.{Sound}
+use Rattle.tables.specs.Found.{Sound}
 use Rattle.tables.specs.Check.{whole_size, sizes_fault, records_fault, lent_fault, tables_fault}
 use Rattle.tables.specs.Facts.{WellFormed}
 use Rattle.tables.proofs.Faults.{first_sound, size_good, size_rest}
@@ -283,7 +282,7 @@ module _ (T : Tables) (sound_tables : tables_fault T ≡ Sound) where
   })
 
   named_or : (b : Bool) (i : ℕ) (x : Found) → entry_schema T.registry i < schema_count T.schemas → Perhaps (λ y. y < schema_count T.schemas) (to_option (found_at (entry_schema T.registry) x)) →
-      Perhaps (λ y. y < schema_count T.schemas) (to_option (found_at (entry_schema T.registry) (pick b (At i) x)))
+      Perhaps (λ y. y < schema_count T.schemas) (to_option (found_at (entry_schema T.registry) (pick b (Some i) x)))
   named_or true i x h r = present h
   named_or false i x h r = r
 

@@ -1,12 +1,12 @@
 -- Document 01, "Compiling": lists that merging joins, over the words of tables 3, 4 and 7. Assumes nothing.
-use Rattle.std.specs.Prelude.{ℕ, ◌+◌, ◌≤◌, ◌≡◌, Bool, true, false, List, [], ◌∷◌, ◌++◌, length, take, eqb, ltb}
+use Rattle.std.specs.Prelude.{ℕ, ◌+◌, ◌≤◌, ◌<◌, ◌≡◌, Bool, true, false, List, [], ◌∷◌, ◌++◌, length, take, eqb, ltb, Option, Some, None}
 use Rattle.text.specs.Choice.{pick, both, either}
 use Rattle.layout.specs.Layout.{NONE, most_links, note_word, schema_kind, schema_note, additional_properties, property_names, required_first, required_count, object_closed}
 use Rattle.append.specs.Append.{room}
+use Rattle.schema.specs.Shape.{Pair}
 use Rattle.schema.specs.Look.{slice}
 use Rattle.merge.specs.Merge.{put_all}
 use Rattle.merge.specs.Pairs.{flat_pairs, merge_all, record_pairs}
-use Rattle.merge.specs.declared.Put.{Put}
 use Rattle.joins.specs.declared.Offers.{Offers}
 use Rattle.joins.specs.declared.Lists.{Lists}
 
@@ -70,29 +70,54 @@ pair_words same S S₀ bound own L bs k s =
 unfoldable pub required_words : List ℕ → List ℕ → ℕ → ℕ → List ℕ → List ℕ → ℕ → List ℕ
 required_words S S₀ bound own L bs s = joined (required_of S (take bound L)) bs ++ required_of S₀ (take own L) s
 
--- what merging pairs reads lies below what it writes
-pub record Below (bound own at k : ℕ) : Type 0 where
+-- the same from lists already found: `list b` is the list of a base b, `own s` that of the derived record
+abbrev pub pairs_joined : (ℕ → ℕ → Bool) → (ℕ → List (Pair ℕ)) → (ℕ → List (Pair ℕ)) → List ℕ → ℕ → List ℕ
+pairs_joined same list own bs s = flat_pairs (put_all same (merge_all same list [] bs) (own s))
+
+abbrev pub required_joined : (ℕ → List ℕ) → (ℕ → List ℕ) → List ℕ → ℕ → List ℕ
+required_joined list own bs s = joined list bs ++ own s
+
+-- what merging reads lies below what it writes
+pub record Below (bound own at : ℕ) : Type 0 where
   pub bases : bound ≤ at
   pub derived : own ≤ at
-  pub small : k ≤ 14
+
+-- the words new stand at the front of what is lent; or it is too short for them
+pub record Filled (R R' new : List ℕ) (r : Option ℕ) : Type 0 where
+  pub count : (n : ℕ) → r ≡ Some n → length new ≡ n
+  pub fits : (n : ℕ) → r ≡ Some n → n ≤ length R
+  pub front : (n : ℕ) → r ≡ Some n → take n R' ≡ new
+  pub full : r ≡ None → length R < length new
+  pub long : length R' ≡ length R
 
 -- the words new stand in the links after `at`, where there is room; earlier words as they were
-pub record Laid (L L' : List ℕ) (at : ℕ) (new : List ℕ) (r : Put) : Type 0 where
-  pub fits : r.full ≡ false → room most_links (length L) at (length new) ≡ true
-  pub count : r.full ≡ false → length new ≡ r.n
-  pub grown : r.full ≡ false → take (at + r.n) L' ≡ take at L ++ new
-  pub full : r.full ≡ true → room most_links (length L) at (length new) ≡ false
+pub record Laid (L L' : List ℕ) (at : ℕ) (new : List ℕ) (r : Option ℕ) : Type 0 where
+  pub fits : (n : ℕ) → r ≡ Some n → room most_links (length L) at (length new) ≡ true
+  pub count : (n : ℕ) → r ≡ Some n → length new ≡ n
+  pub grown : (n : ℕ) → r ≡ Some n → take (at + n) L' ≡ take at L ++ new
+  pub full : r ≡ None → room most_links (length L) at (length new) ≡ false
   pub kept : take at L' ≡ take at L
   pub long : length L' ≡ length L
 
-abbrev pub no_lists : Lists
-no_lists = record { full = true; properties = 0; patterns = 0; required = 0; additional = 0; names = 0 }
+-- how many words the lists take
+abbrev pub total : Option Lists → Option ℕ
+total None = None
+total (Some x) = Some (x.properties + x.patterns + x.required + x.additional + x.names)
 
--- the lists of a merged object, one after the other
-pub record Linked (L L' : List ℕ) (at : ℕ) (p q r a n : List ℕ) (x : Lists) : Type 0 where
-  pub laid : Laid L L' at ((((p ++ q) ++ r) ++ a) ++ n) (record { full = x.full; n = x.properties + x.patterns + x.required + x.additional + x.names })
-  pub properties : x.full ≡ false → length p ≡ x.properties
-  pub patterns : x.full ≡ false → length q ≡ x.patterns
-  pub required : x.full ≡ false → length r ≡ x.required
-  pub additional : x.full ≡ false → length a ≡ x.additional
-  pub names : x.full ≡ false → length n ≡ x.names
+-- each list takes as many words as are counted
+pub record Counted (p q r a n : List ℕ) (x : Option Lists) : Type 0 where
+  pub properties : (y : Lists) → x ≡ Some y → length p ≡ y.properties
+  pub patterns : (y : Lists) → x ≡ Some y → length q ≡ y.patterns
+  pub required : (y : Lists) → x ≡ Some y → length r ≡ y.required
+  pub additional : (y : Lists) → x ≡ Some y → length a ≡ y.additional
+  pub names : (y : Lists) → x ≡ Some y → length n ≡ y.names
+
+-- the lists of a merged object, one after the other, at the front of what is lent
+pub record Listed (R R' : List ℕ) (p q r a n : List ℕ) (x : Option Lists) : Type 0 where
+  pub filled : Filled R R' ((((p ++ q) ++ r) ++ a) ++ n) (total x)
+  pub counted : Counted p q r a n x
+
+-- the same in the links
+pub record Linked (L L' : List ℕ) (at : ℕ) (p q r a n : List ℕ) (x : Option Lists) : Type 0 where
+  pub laid : Laid L L' at ((((p ++ q) ++ r) ++ a) ++ n) (total x)
+  pub counted : Counted p q r a n x

@@ -1,22 +1,22 @@
-// Lists that merging joins: required texts, additional schemas, names. What is laid stands in the links after `at`, in order.
+// Lists that merging joins: required texts, additional schemas, names. Each is laid at the front of the room that is left in the links.
 #![tactic(auto)]
 
-ghost use Rattle.std.specs.Prelude.{◌≡◌, [], ◌∷◌, ℕ, ◌+◌, ◌*◌, ◌≤◌, ◌<◌, length, take, true, false};
-ghost use Rattle.layout.specs.Layout.{NONE, note_words, schema_words};
+ghost use Rattle.std.specs.Prelude.{◌≡◌, ◌==◌, ℕ, Bool, ◌≤◌, ◌<◌, ◌^◌, true, false, []};
+ghost use Rattle.std.specs.List.{list_any};
+ghost use Rattle.layout.specs.Layout.{NONE, object_closed};
 ghost use Rattle.schema.specs.Look.{slice};
 ghost use Rattle.text.specs.Text.{same_text};
 ghost use Rattle.merge.specs.Merge.{put_all};
-ghost use Rattle.merge.specs.Pairs.{span, pairs_at, flat_pairs, merge_all, record_pairs};
-ghost use Rattle.joins.specs.Joins.{note_field, detects_case, offer_of, keep_one, joined, tally_one, tally, required_of, offered_of, no_offers, join_words, closed_of, pair_words, required_words, no_lists, Below, Laid, Linked};
+ghost use Rattle.merge.specs.Pairs.{pairs_at, flat_pairs, merge_all, record_pairs};
+ghost use Rattle.joins.specs.Joins.{note_field, detects_case, offer_of, keep_one, joined, tally_one, tally, required_of, offered_of, no_offers, join_words, closed_of, pairs_joined, required_joined, pair_words, required_words, Below, Filled, Listed, Linked};
 
 use layout::schema::{
-    ADDITIONAL, CLOSED, KIND, NAMES, NOTE, PATTERN_PROPERTIES, PROPERTIES, REQUIRED,
+    PATTERN_PROPERTIES, PROPERTIES, additional_properties, object_closed, property_names,
+    required_count, required_first, schema_kind, schema_note, schema_word,
 };
-use layout::words::{MOST_LINKS, NONE, NOTE_WORDS};
-use merge::{Put, field, word};
-
-// Where a note says whether its tags hold case-detection.
-const CASE_DETECTION: u32 = 8;
+use layout::words::{MOST_LINKS, NONE, note_word};
+use layout::{kind, note};
+use text::{Texts, word};
 
 // How many schemas are offered, and the last of them or NONE.
 #[derive(Clone, Copy)]
@@ -25,10 +25,9 @@ pub struct Offers {
     pub last: u32,
 }
 
-// How many words each list of a merged object takes in the links, or no room.
+// How many words each list of a merged object takes in the links.
 #[derive(Clone, Copy)]
 pub struct Lists {
-    pub full: bool,
     pub properties: usize,
     pub patterns: usize,
     pub required: usize,
@@ -36,61 +35,57 @@ pub struct Lists {
     pub names: usize,
 }
 
-fn no_lists() -> Lists
-    ensures { result ≡ no_lists }
-{
-    Lists {
-        full: true,
-        properties: 0,
-        patterns: 0,
-        required: 0,
-        additional: 0,
-        names: 0,
-    }
+// The bases of an object, and the used words of the tables once they are compiled.
+#[derive(Clone, Copy)]
+pub struct Bases<'a, 'l> {
+    pub notes: &'a [u32],
+    pub schemas: &'a [u32],
+    pub links: &'l [u32],
+    pub objects: &'a [u32],
 }
 
-// Word k of the note of record b, of the used ones; NONE where it has no note.
-pub fn note_field(notes: &[u32], schemas: &[u32], un: u32, us: u32, b: u32, k: u32) -> u32
-    ensures { result ≡ note_field (take (un * note_words) notes.now) (take (us * schema_words) schemas.now) b k }
+// The derived object itself, and the words of the tables that were used before.
+#[derive(Clone, Copy)]
+pub struct Own<'a, 'l> {
+    pub schemas: &'a [u32],
+    pub links: &'l [u32],
+    pub object: u32,
+}
+
+// Word k of the note of record b; NONE where it has no note.
+pub fn note_field(notes: &[u32], schemas: &[u32], b: u32, k: u32) -> u32
+    ensures { result ≡ note_field notes.now schemas.now b k }
 {
-    let note = field(schemas, us, b, NOTE);
+    let note = schema_note(schemas, b);
     if note == NONE {
         return NONE;
     }
-    word(
-        notes,
-        (un as usize) * NOTE_WORDS,
-        (note as usize) * NOTE_WORDS + (k as usize),
-    )
+    note_word(notes, note, k)
 }
 
 // Whether record w is a string schema with case-detection.
-fn detects(notes: &[u32], schemas: &[u32], un: u32, us: u32, w: u32) -> bool
-    ensures { result ≡ detects_case (take (un * note_words) notes.now) (take (us * schema_words) schemas.now) w }
+fn detects(notes: &[u32], schemas: &[u32], w: u32) -> bool
+    ensures { result ≡ detects_case notes.now schemas.now w }
 {
-    if field(schemas, us, w, KIND) != 3 {
-        return false;
-    }
-    note_field(notes, schemas, un, us, w, CASE_DETECTION) == 1
+    schema_kind(schemas, w) == kind::STRING
+        && note_field(notes, schemas, w, note::CASE_DETECTION) == 1
 }
 
-// What base b offers to a join: its additional schema, or its names schema if that counts; else NONE.
-fn offer(notes: &[u32], schemas: &[u32], un: u32, us: u32, names: bool, b: u32) -> u32
-    ensures { result ≡ offer_of (take (un * note_words) notes.now) (take (us * schema_words) schemas.now) names b }
+// What base b offers to a join: its names schema if that counts, or its additional schema; else NONE. `names` is a truth value since
+// the definition `offer_of` takes it.
+fn offer(notes: &[u32], schemas: &[u32], names: bool, b: u32) -> u32
+    ensures { result ≡ offer_of notes.now schemas.now names b }
 {
-    if names {
-        let w = field(schemas, us, b, NAMES);
-        if detects(notes, schemas, un, us, w) {
-            return NONE;
-        }
-        return w;
+    if !names {
+        return additional_properties(schemas, b);
     }
-    field(schemas, us, b, ADDITIONAL)
+    let w = property_names(schemas, b);
+    if detects(notes, schemas, w) { NONE } else { w }
 }
 
 // One more offer.
 fn tallied(t: Offers, w: u32) -> Offers
-    requires { t.n ≤ 4294967296 }
+    requires { t.n < 2 ^ 63 }
     ensures { result ≡ tally_one t w }
 {
     if w == NONE {
@@ -102,390 +97,255 @@ fn tallied(t: Offers, w: u32) -> Offers
     }
 }
 
-// Copies a list of links, read below bound.
-pub fn lay_list(links: &mut [u32], bound: usize, first: u32, count: u32, at: usize) -> Put
-    requires { bound ≤ at }
-    ensures { Laid links.old links.new at (slice (take bound links.old) first count) result }
+// Lays the count words that stand at first in the links: how many they are, unless the room is too short.
+pub fn lay_list(links: &[u32], first: u32, count: u32, room: &mut [u32]) -> Option<usize>
+    ensures { Filled room.old room.new (slice links.now first count) result }
 {
-    let n = count as usize;
-    if MOST_LINKS < at {
-        return Put { full: true, n: 0 };
+    let count = count as usize;
+    if room.len() < count {
+        return None;
     }
-    if MOST_LINKS < at + n {
-        return Put { full: true, n: 0 };
+    for k in 0..count {
+        room[k] = word(links, (first as usize) + k);
     }
-    if links.len() < at + n {
-        return Put { full: true, n: 0 };
-    }
-    let mut i: usize = 0;
-    while i < n {
-        links[at + i] = word(links, bound, (first as usize) + i);
-        i += 1;
-    }
-    Put { full: false, n }
+    Some(count)
 }
 
 // An offer, unless it is NONE.
-pub fn lay_offer(links: &mut [u32], w: u32, at: usize) -> Put
-    ensures { Laid links.old links.new at (keep_one w) result }
+pub fn lay_offer(w: u32, room: &mut [u32]) -> Option<usize>
+    ensures { Filled room.old room.new (keep_one w) result }
 {
     if w == NONE {
-        if MOST_LINKS < at {
-            return Put { full: true, n: 0 };
-        }
-        if links.len() < at {
-            return Put { full: true, n: 0 };
-        }
-        return Put { full: false, n: 0 };
+        return Some(0);
     }
-    if MOST_LINKS <= at {
-        return Put { full: true, n: 0 };
+    if room.is_empty() {
+        return None;
     }
-    if links.len() <= at {
-        return Put { full: true, n: 0 };
-    }
-    links[at] = w;
-    Put { full: false, n: 1 }
+    room[0] = w;
+    Some(1)
 }
 
-// The required lists of the count bases that the stack names from sp on, one after the other.
-pub fn lay_required(
-    schemas: &[u32],
-    links: &mut [u32],
-    stack: &[u32],
-    us: u32,
-    bound: usize,
-    sp: u32,
-    count: u32,
-    at: usize,
-) -> Put
-    requires { bound ≤ at }
-    ensures { Laid links.old links.new at (joined (required_of (take (us * schema_words) schemas.now) (take bound links.old)) (span stack.now sp 1 count)) result }
+// The required lists of the bases, one after the other. Its loop stands again in `lay_offers`: a shared one is no plainer, it would take a
+// closure that writes.
+pub fn lay_required(bases: Bases, room: &mut [u32]) -> Option<usize>
+    ensures { let required = required_of bases.entry.schemas.now bases.entry.links.now in
+        Filled room.old room.new (joined required bases.entry.objects.now) result }
 {
-    if MOST_LINKS < at {
-        return Put { full: true, n: 0 };
+    let mut end = 0;
+    for base in bases.objects {
+        let first = required_first(bases.schemas, *base);
+        let count = required_count(bases.schemas, *base);
+        end += lay_list(bases.links, first, count, &mut room[end..])?;
     }
-    if links.len() < at {
-        return Put { full: true, n: 0 };
-    }
-    let c = count as usize;
-    let mut j: usize = 0;
-    let mut end = at;
-    while j < c {
-        let b = word(stack, stack.len(), (sp as usize) + j);
-        let first = field(schemas, us, b, REQUIRED);
-        let n = field(schemas, us, b, REQUIRED + 1);
-        let p = lay_list(links, bound, first, n, end);
-        if p.full {
-            return Put { full: true, n: 0 };
-        }
-        end += p.n;
-        j += 1;
-    }
-    Put {
-        full: false,
-        n: end - at,
-    }
+    Some(end)
 }
 
 // What the bases offer to the join of names, or to that of additional.
-pub fn lay_offers(
-    notes: &[u32],
-    schemas: &[u32],
-    links: &mut [u32],
-    stack: &[u32],
-    un: u32,
-    us: u32,
-    names: bool,
-    sp: u32,
-    count: u32,
-    at: usize,
-) -> Put
-    ensures { Laid links.old links.new at (joined (offered_of (take (un * note_words) notes.now) (take (us * schema_words) schemas.now) names) (span stack.now sp 1 count)) result }
+pub fn lay_offers(bases: Bases, names: bool, room: &mut [u32]) -> Option<usize>
+    ensures { let offered = offered_of bases.entry.notes.now bases.entry.schemas.now names in
+        Filled room.old room.new (joined offered bases.entry.objects.now) result }
 {
-    if MOST_LINKS < at {
-        return Put { full: true, n: 0 };
+    let mut end = 0;
+    for base in bases.objects {
+        let w = offer(bases.notes, bases.schemas, names, *base);
+        end += lay_offer(w, &mut room[end..])?;
     }
-    if links.len() < at {
-        return Put { full: true, n: 0 };
-    }
-    let c = count as usize;
-    let mut j: usize = 0;
-    let mut end = at;
-    while j < c {
-        let b = word(stack, stack.len(), (sp as usize) + j);
-        let w = offer(notes, schemas, un, us, names, b);
-        let p = lay_offer(links, w, end);
-        if p.full {
-            return Put { full: true, n: 0 };
-        }
-        end += p.n;
-        j += 1;
-    }
-    Put {
-        full: false,
-        n: end - at,
-    }
+    Some(end)
 }
 
 // How many schemas are offered by the bases and by the derived object, and the last of them.
-pub fn count_offers(
-    notes: &[u32],
-    schemas: &[u32],
-    stack: &[u32],
-    un: u32,
-    us: u32,
-    names: bool,
-    sp: u32,
-    count: u32,
-    own: u32,
-) -> Offers
-    ensures { result ≡ tally_one (tally (offer_of (take (un * note_words) notes.now) (take (us * schema_words) schemas.now) names) no_offers (span stack.now sp 1 count)) own }
+pub fn count_offers(notes: &[u32], schemas: &[u32], bases: &[u32], names: bool, own: u32) -> Offers
+    ensures { let offered = tally (offer_of notes.now schemas.now names) no_offers bases.now in
+        result ≡ tally_one offered own }
 {
-    let c = count as usize;
-    let mut j: usize = 0;
     let mut t = Offers { n: 0, last: NONE };
-    while j < c {
-        let b = word(stack, stack.len(), (sp as usize) + j);
-        let w = offer(notes, schemas, un, us, names, b);
-        t = tallied(t, w);
-        j += 1;
+    for base in bases {
+        t = tallied(t, offer(notes, schemas, names, *base));
     }
     tallied(t, own)
 }
 
-// The merged pairs of one list, as links: those of the bases, then the derived object's own, which stand at first below own.
+// The merged pairs of the lists at word k, as links: those of the bases, then the derived object's own, which stand at first.
 pub fn lay_pairs(
-    pool: &[u8],
-    texts: &[u32],
-    schemas: &[u32],
-    links: &mut [u32],
-    stack: &[u32],
-    us: u32,
-    bound: usize,
+    texts: &Texts,
+    bases: Bases,
     k: u32,
-    sp: u32,
-    count: u32,
-    own: usize,
+    own_links: &[u32],
     first: u32,
-    n: u32,
-    at: usize,
-) -> Put
-    requires { Below bound own at k }
-    ensures { Laid links.old links.new at (flat_pairs (put_all (same_text pool.now texts.now) (merge_all (same_text pool.now texts.now) (record_pairs (take (us * schema_words) schemas.now) (take bound links.old) k) [] (span stack.now sp 1 count)) (pairs_at (take own links.old) first n))) result }
+    count: u32,
+    room: &mut [u32],
+) -> Option<usize>
+    requires { k ≤ 14 }
+    ensures { let same = same_text texts.now.pool.now texts.now.records.now in
+        let list = record_pairs bases.entry.schemas.now bases.entry.links.now k in
+        let merged = merge_all same list [] bases.entry.objects.now in
+        let own = pairs_at own_links.now first count in
+        Filled room.old room.new (flat_pairs (put_all same merged own)) result }
 {
-    if MOST_LINKS < at {
-        return Put { full: true, n: 0 };
-    }
-    if links.len() < at {
-        return Put { full: true, n: 0 };
-    }
-    let p = merge::merge_pairs(
-        pool, texts, schemas, links, stack, us, bound, k, sp, count, own, first, n, at,
-    );
-    if p.full {
-        return Put { full: true, n: 0 };
-    }
-    Put {
-        full: false,
-        n: p.n * 2,
-    }
+    let n = merge::merge_pairs(
+        texts,
+        bases.schemas,
+        bases.links,
+        bases.objects,
+        k,
+        own_links,
+        first,
+        count,
+        room,
+    )?;
+    Some(n * 2)
 }
 
 // The links of a join of n offers, the derived object's own last: none where fewer than two are offered.
-pub fn lay_join(
-    notes: &[u32],
-    schemas: &[u32],
-    links: &mut [u32],
-    stack: &[u32],
-    un: u32,
-    us: u32,
-    names: bool,
-    sp: u32,
-    count: u32,
-    own: u32,
-    n: usize,
-    at: usize,
-) -> Put
-    ensures { Laid links.old links.new at (join_words n (joined (offered_of (take (un * note_words) notes.now) (take (us * schema_words) schemas.now) names) (span stack.now sp 1 count)) own) result }
+pub fn lay_join(bases: Bases, names: bool, own: u32, n: usize, room: &mut [u32]) -> Option<usize>
+    ensures { let offered = offered_of bases.entry.notes.now bases.entry.schemas.now names in
+        let words = join_words n (joined offered bases.entry.objects.now) own in
+        Filled room.old room.new words result }
 {
     if n < 2 {
-        return lay_offer(links, NONE, at);
+        return Some(0);
     }
-    let p = lay_offers(notes, schemas, links, stack, un, us, names, sp, count, at);
-    let m = p.n;
-    if p.full {
-        return Put { full: true, n: 0 };
-    }
-    let q = lay_offer(links, own, at + m);
-    if q.full {
-        return Put { full: true, n: 0 };
-    }
-    Put {
-        full: false,
-        n: m + q.n,
-    }
+    let end = lay_offers(bases, names, room)?;
+    let last = lay_offer(own, &mut room[end..])?;
+    Some(end + last)
+}
+
+// Whether a base is closed. Written straight into `any_closed`, its proof did not close.
+fn any_base_closed(schemas: &[u32], bases: &[u32]) -> bool
+    ensures { result ≡ list_any (λ b. object_closed schemas.now b == 1) bases.now }
+{
+    bases.iter().any(|base| object_closed(schemas, *base) == 1)
 }
 
 // Whether a base or the derived object is closed.
-pub fn any_closed(schemas: &[u32], stack: &[u32], us: u32, sp: u32, count: u32, own: bool) -> bool
-    ensures { result ≡ closed_of (take (us * schema_words) schemas.now) own (span stack.now sp 1 count) }
+pub fn any_closed(schemas: &[u32], bases: &[u32], own: bool) -> bool
+    ensures { result ≡ closed_of schemas.now own bases.now }
 {
-    let c = count as usize;
-    let mut j: usize = 0;
-    while j < c {
-        let b = word(stack, stack.len(), (sp as usize) + j);
-        if field(schemas, us, b, CLOSED) == 1 {
-            return true;
-        }
-        j += 1;
-    }
-    own
+    any_base_closed(schemas, bases) || own
 }
 
-// The merged pairs of the list at word k, as links: those of the bases, then those of the derived record s, uncompiled.
-fn lay_merged(
-    pool: &[u8],
-    texts: &[u32],
-    schemas: &[u32],
-    links: &mut [u32],
-    stack: &[u32],
-    us: u32,
-    bound: usize,
-    k: u32,
-    sp: u32,
-    count: u32,
-    own_us: u32,
-    own: usize,
-    s: u32,
-    at: usize,
-) -> Put
-    requires { Below bound own at k }
-    ensures { Laid links.old links.new at (pair_words (same_text pool.now texts.now) (take (us * schema_words) schemas.now) (take (own_us * schema_words) schemas.now) bound own links.old (span stack.now sp 1 count) k s) result }
+// The merged pairs of the lists at word k: those of the bases, then those of the derived object, uncompiled.
+fn lay_merged(texts: &Texts, bases: Bases, own: Own, k: u32, room: &mut [u32]) -> Option<usize>
+    requires { k ≤ 14 }
+    ensures { let same = same_text texts.now.pool.now texts.now.records.now in
+        let list = record_pairs bases.entry.schemas.now bases.entry.links.now k in
+        let last = record_pairs own.entry.schemas.now own.entry.links.now k in
+        let pairs = pairs_joined same list last bases.entry.objects.now own.entry.object in
+        Filled room.old room.new pairs result }
 {
-    let first = field(schemas, own_us, s, k);
-    let n = field(schemas, own_us, s, k + 1);
-    lay_pairs(
-        pool, texts, schemas, links, stack, us, bound, k, sp, count, own, first, n, at,
-    )
+    let first = schema_word(own.schemas, own.object, k);
+    let count = schema_word(own.schemas, own.object, k + 1);
+    lay_pairs(texts, bases, k, own.links, first, count, room)
 }
 
-// The required lists of the bases, then that of the derived record s.
-fn lay_all_required(
-    schemas: &[u32],
-    links: &mut [u32],
-    stack: &[u32],
-    us: u32,
-    bound: usize,
-    sp: u32,
-    count: u32,
-    own_us: u32,
-    own: usize,
-    s: u32,
-    at: usize,
-) -> Put
-    requires { Below bound own at 0 }
-    ensures { Laid links.old links.new at (required_words (take (us * schema_words) schemas.now) (take (own_us * schema_words) schemas.now) bound own links.old (span stack.now sp 1 count) s) result }
+// The required lists of the bases, then that of the derived object.
+fn lay_all_required(bases: Bases, own: Own, room: &mut [u32]) -> Option<usize>
+    ensures { let required = required_of bases.entry.schemas.now bases.entry.links.now in
+        let last = required_of own.entry.schemas.now own.entry.links.now in
+        let words = required_joined required last bases.entry.objects.now own.entry.object in
+        Filled room.old room.new words result }
 {
-    let first = field(schemas, own_us, s, REQUIRED);
-    let n = field(schemas, own_us, s, REQUIRED + 1);
-    let p = lay_required(schemas, links, stack, us, bound, sp, count, at);
-    let m = p.n;
-    if p.full {
-        return Put { full: true, n: 0 };
-    }
-    let q = lay_list(links, own, first, n, at + m);
-    if q.full {
-        return Put { full: true, n: 0 };
-    }
-    Put {
-        full: false,
-        n: m + q.n,
-    }
+    let first = required_first(own.schemas, own.object);
+    let count = required_count(own.schemas, own.object);
+    let end = lay_required(bases, room)?;
+    let last = lay_list(own.links, first, count, &mut room[end..])?;
+    Some(end + last)
 }
 
 // The links of a merged object, in order: properties, patterns, required, joined additional, joined names.
-pub fn lay_all(
-    pool: &[u8],
-    texts: &[u32],
-    notes: &[u32],
-    schemas: &[u32],
+fn lay_lists(
+    texts: &Texts,
+    bases: Bases,
+    own: Own,
+    own_additional: u32,
+    offers: usize,
+    named: usize,
+    room: &mut [u32],
+) -> Option<Lists>
+    ensures { let same = same_text texts.now.pool.now texts.now.records.now in
+        let pairs = λ (k : ℕ). record_pairs bases.entry.schemas.now bases.entry.links.now k in
+        let own_pairs = λ (k : ℕ). record_pairs own.entry.schemas.now own.entry.links.now k in
+        let required = required_of bases.entry.schemas.now bases.entry.links.now in
+        let own_required = required_of own.entry.schemas.now own.entry.links.now in
+        let each = λ (names : Bool). offered_of bases.entry.notes.now bases.entry.schemas.now names in
+        let offered = λ (names : Bool). joined (each names) bases.entry.objects.now in
+        Listed room.old room.new
+        (pairs_joined same (pairs 2) (own_pairs 2) bases.entry.objects.now own.entry.object)
+        (pairs_joined same (pairs 4) (own_pairs 4) bases.entry.objects.now own.entry.object)
+        (required_joined required own_required bases.entry.objects.now own.entry.object)
+        (join_words offers (offered false) own_additional)
+        (join_words named (offered true) NONE)
+        result }
+{
+    let properties = lay_merged(texts, bases, own, PROPERTIES, room)?;
+    let room = &mut room[properties..];
+    let patterns = lay_merged(texts, bases, own, PATTERN_PROPERTIES, room)?;
+    let room = &mut room[patterns..];
+    let required = lay_all_required(bases, own, room)?;
+    let room = &mut room[required..];
+    let additional = lay_join(bases, false, own_additional, offers, room)?;
+    let room = &mut room[additional..];
+    let names = lay_join(bases, true, NONE, named, room)?;
+    Some(Lists {
+        properties,
+        patterns,
+        required,
+        additional,
+        names,
+    })
+}
+
+// The same after the first `at` of the links, of which those below bound are read for the bases and those below own for the derived object.
+pub fn lay_all<'a>(
+    texts: &Texts,
+    notes: &'a [u32],
+    schemas: &'a [u32],
     links: &mut [u32],
-    stack: &[u32],
-    un: u32,
-    us: u32,
+    bases: &'a [u32],
     bound: usize,
-    sp: u32,
-    count: u32,
-    own_us: u32,
+    own_schemas: &'a [u32],
     own: usize,
     s: u32,
     additional: u32,
     offers: usize,
     named: usize,
     at: usize,
-) -> Lists
-    requires { Below bound own at 0 }
-    ensures { Linked links.old links.new at (pair_words (same_text pool.now texts.now) (take (us * schema_words) schemas.now) (take (own_us * schema_words) schemas.now) bound own links.old (span stack.now sp 1 count) 2 s) (pair_words (same_text pool.now texts.now) (take (us * schema_words) schemas.now) (take (own_us * schema_words) schemas.now) bound own links.old (span stack.now sp 1 count) 4 s) (required_words (take (us * schema_words) schemas.now) (take (own_us * schema_words) schemas.now) bound own links.old (span stack.now sp 1 count) s) (join_words offers (joined (offered_of (take (un * note_words) notes.now) (take (us * schema_words) schemas.now) false) (span stack.now sp 1 count)) additional) (join_words named (joined (offered_of (take (un * note_words) notes.now) (take (us * schema_words) schemas.now) true) (span stack.now sp 1 count)) NONE) result }
+) -> Option<Lists>
+    requires { Below bound own at }
+    ensures { let same = same_text texts.now.pool.now texts.now.records.now in
+        let pairs = λ (k : ℕ).
+        pair_words same schemas.now own_schemas.now bound own links.old bases.now k s in
+        let required = required_words schemas.now own_schemas.now bound own links.old bases.now s in
+        let offered = λ (names : Bool). joined (offered_of notes.now schemas.now names) bases.now in
+        Linked links.old links.new at (pairs 2) (pairs 4) required
+        (join_words offers (offered false) additional)
+        (join_words named (offered true) NONE)
+        result }
 {
-    let p = lay_merged(
-        pool, texts, schemas, links, stack, us, bound, PROPERTIES, sp, count, own_us, own, s, at,
-    );
-    let pn = p.n;
-    if p.full {
-        return no_lists();
+    if MOST_LINKS < at || links.len() < at {
+        return None;
     }
-    let second = at + pn;
-    let q = lay_merged(
-        pool,
-        texts,
+    let (read, room) = links.split_at_mut(at);
+    let read = &*read;
+    let most = room.len().min(MOST_LINKS - at);
+    let all = Bases {
+        notes,
         schemas,
-        links,
-        stack,
-        us,
-        bound,
-        PATTERN_PROPERTIES,
-        sp,
-        count,
-        own_us,
-        own,
-        s,
-        second,
-    );
-    let qn = q.n;
-    if q.full {
-        return no_lists();
-    }
-    let third = second + qn;
-    let r = lay_all_required(
-        schemas, links, stack, us, bound, sp, count, own_us, own, s, third,
-    );
-    let rn = r.n;
-    if r.full {
-        return no_lists();
-    }
-    let fourth = third + rn;
-    let a = lay_join(
-        notes, schemas, links, stack, un, us, false, sp, count, additional, offers, fourth,
-    );
-    let an = a.n;
-    if a.full {
-        return no_lists();
-    }
-    let fifth = fourth + an;
-    let n = lay_join(
-        notes, schemas, links, stack, un, us, true, sp, count, NONE, named, fifth,
-    );
-    let nn = n.n;
-    if n.full {
-        return no_lists();
-    }
-    Lists {
-        full: false,
-        properties: pn,
-        patterns: qn,
-        required: rn,
-        additional: an,
-        names: nn,
-    }
+        links: &read[..bound],
+        objects: bases,
+    };
+    let derived = Own {
+        schemas: own_schemas,
+        links: &read[..own],
+        object: s,
+    };
+    lay_lists(
+        texts,
+        all,
+        derived,
+        additional,
+        offers,
+        named,
+        &mut room[..most],
+    )
 }

@@ -8,10 +8,11 @@ use borrow.Author.Tests.{eq-eqb, ne_eqb}
 use Rattle.text.specs.Choice.{both_fails_left, both_fails_right}
 use Rattle.layout.specs.Layout.{node_kind, node_a, node_b}
 use Rattle.layout.specs.Walk.{every}
-use Rattle.lookup.specs.declared.Found.{Found}
-use Rattle.lookup.specs.declared.Found.TheVariants.{At, Nothing}
+use Rattle.lookup.specs.Find.{Found}
+use Rattle.std.specs.Prelude.{Some, None, is_some}
+use Rattle.std.specs.Option.{option_eq}
 use Rattle.lookup.specs.Lookup.{entry_key, entry_value, item_node, last_entry}
-use Rattle.json_equality.specs.Walk.{is_last_of, key_value_of, key_in_of, keys_in_of, counterpart_of, equal_item_of, equal_arrays_of, equal_entry_of, equal_objects_of}
+use Rattle.json_equality.specs.Walk.{is_at, is_found, is_last_of, key_value_of, key_in_of, keys_in_of, counterpart_of, equal_item_of, equal_arrays_of, equal_entry_of, equal_objects_of}
 
 -- what `!` of a test says of it
 pub denied : (t : Bool) → not t ≡ true → t ≡ false
@@ -22,22 +23,26 @@ pub not_denied : (t : Bool) → not t ≡ false → t ≡ true
 not_denied true h = refl
 not_denied false h = sym h
 
+at_place : (r : Found) (k : ℕ) → option_eq eqb r (Some k) ≡ is_at k r
+at_place (Some j) k = refl
+at_place None k = refl
+
+found_or_not : (r : Found) → is_some r ≡ is_found r
+found_or_not (Some j) = refl
+found_or_not None = refl
+
 module _ (pool texts nodes links : List ℕ) where
   -- ---- the last entry with a key
   module _ (n text : ℕ) {r : Found} (e : r ≡ last_entry pool texts nodes links n text) where
-    pub last_is : (k : ℕ) {j : ℕ} → r ≡ At j → eqb j k ≡ is_last_of pool texts nodes links n text k
+    pub last_at : (k : ℕ) → option_eq eqb r (Some k) ≡ is_last_of pool texts nodes links n text k
     unfolding is_last_of
-    last_is k h = rw (sym e ∙ h)
+    last_at k = at_place r k ∙ ap (is_at k) e
 
-    pub last_missing : (k : ℕ) → r ≡ Nothing → false ≡ is_last_of pool texts nodes links n text k
-    unfolding is_last_of
-    last_missing k h = rw (sym e ∙ h)
-
-    pub value_is : {j v : ℕ} → r ≡ At j → v ≡ entry_value nodes links n j → At v ≡ key_value_of pool texts nodes links n text
+    pub value_is : {j v : ℕ} → r ≡ Some j → v ≡ entry_value nodes links n j → Some v ≡ key_value_of pool texts nodes links n text
     unfolding key_value_of
     value_is h g = rw (sym e ∙ h, g)
 
-    pub value_missing : r ≡ Nothing → Nothing ≡ key_value_of pool texts nodes links n text
+    pub value_missing : r ≡ None → None ≡ key_value_of pool texts nodes links n text
     unfolding key_value_of
     value_missing h = rw (sym e ∙ h)
 
@@ -52,17 +57,13 @@ module _ (pool texts nodes links : List ℕ) where
         string_key : node_kind nodes (entry_key nodes links b k) ≡ 4
         string_key = rw e at (sym f ∙ h)
 
-        pub key_is_lem : {j : ℕ} → r ≡ At j → true ≡ key_in_of pool texts nodes links a b k
+        pub key_asked : is_some r ≡ key_in_of pool texts nodes links a b k
         unfolding key_in_of
-        key_is_lem q = rw (string_key, rw (g, e) at (sym l ∙ q))
-
-        pub key_missing : r ≡ Nothing → false ≡ key_in_of pool texts nodes links a b k
-        unfolding key_in_of
-        key_missing q = rw (string_key, rw (g, e) at (sym l ∙ q))
+        key_asked = found_or_not r ∙ rw (string_key, rw (g, e) at (ap is_found l))
 
     -- ---- what an entry of a is compared with
     module _ {key kind : ℕ} (e : key ≡ entry_key nodes links a k) (f : kind ≡ node_kind nodes key) where
-      pub part_other : {v : ℕ} → (kind ≡ 4 → ⊥) → v ≡ entry_value nodes links a k → At v ≡ counterpart_of pool texts nodes links a b k
+      pub part_other : {v : ℕ} → (kind ≡ 4 → ⊥) → v ≡ entry_value nodes links a k → Some v ≡ counterpart_of pool texts nodes links a b k
       unfolding counterpart_of
       part_other h g = rw (ne_eqb (node_kind nodes (entry_key nodes links a k)) 4 (λ q. h (f ∙ ap (λ (m : ℕ). node_kind nodes m) e ∙ q)), g)
 
@@ -70,7 +71,7 @@ module _ (pool texts nodes links : List ℕ) where
         string_entry : node_kind nodes (entry_key nodes links a k) ≡ 4
         string_entry = rw e at (sym f ∙ h)
 
-        pub part_covered : {v : ℕ} → last ≡ false → v ≡ entry_value nodes links a k → At v ≡ counterpart_of pool texts nodes links a b k
+        pub part_covered : {v : ℕ} → last ≡ false → v ≡ entry_value nodes links a k → Some v ≡ counterpart_of pool texts nodes links a b k
         unfolding counterpart_of
         part_covered q p = rw (string_entry, rw (g, e) at (sym l ∙ q), p)
 
@@ -116,10 +117,10 @@ module _ (equal : ℕ → ℕ → Bool) (pool texts nodes links : List ℕ) (a b
   unfolding equal_objects_of
   objects_start k h e t f = rw (eq-eqb (node_kind nodes b) 6 (sym k ∙ h), sym e ∙ t, f)
 
-  pub entry-missing : (k : ℕ) {r : Found} → r ≡ counterpart_of pool texts nodes links a b k → r ≡ Nothing → equal_entry_of equal pool texts nodes links a b k ≡ false
+  pub entry-missing : (k : ℕ) {r : Found} → r ≡ counterpart_of pool texts nodes links a b k → r ≡ None → equal_entry_of equal pool texts nodes links a b k ≡ false
   unfolding equal_entry_of
   entry-missing k e h = rw (sym e ∙ h)
 
-  pub entry_is : (k : ℕ) {x y : ℕ} {r : Found} {q t : Bool} → r ≡ counterpart_of pool texts nodes links a b k → r ≡ At y → x ≡ entry_value nodes links a k → q ≡ equal x y → q ≡ t → equal_entry_of equal pool texts nodes links a b k ≡ t
+  pub entry_is : (k : ℕ) {x y : ℕ} {r : Found} {q t : Bool} → r ≡ counterpart_of pool texts nodes links a b k → r ≡ Some y → x ≡ entry_value nodes links a k → q ≡ equal x y → q ≡ t → equal_entry_of equal pool texts nodes links a b k ≡ t
   unfolding equal_entry_of
   entry_is k e h f g p = rw (sym e ∙ h, ← f) (sym g ∙ p)

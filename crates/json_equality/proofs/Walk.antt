@@ -16,7 +16,7 @@ use Rattle.number.specs.declared.equal.Equality.{Equality}
 use Rattle.layout.specs.Layout.{node_kind, node_a, node_b, node_count}
 use Rattle.layout.specs.Walk.{every}
 use Rattle.layout.proofs.Walk.{every_more, every-stop, every-end}
-use Rattle.lookup.specs.declared.Found.TheVariants.{At}
+use Rattle.std.specs.Prelude.{Some}
 use Rattle.lookup.specs.Find.{found_at}
 use Rattle.lookup.specs.Lookup.{key_is, entry_has_key, entry_key, entry_value, item_node, last_entry}
 use Rattle.json_equality.specs.declared.shape.Shape.{Shape}
@@ -158,11 +158,11 @@ module _ (way : Equality) (pool texts : List ℕ) (f : ℕ → Json) (nodes link
         self : true ≡ equal own own
         self = sym (equal_refl way (f own) (sane own))
 
-        counts : (t : Bool) → is_last_of pool texts nodes links a (node_a nodes key) k ≡ not t → either t (on_some (equal_json way (f own)) (field_of (text_of pool texts (node_a nodes key)) (fields_from pool texts f nodes links b 0 (node_b nodes b)))) ≡ on_found (equal own) (pick (is_last_of pool texts nodes links a (node_a nodes key) k) (found_at (entry_value nodes links b) (last_entry pool texts nodes links b (node_a nodes key))) (At own))
+        counts : (t : Bool) → is_last_of pool texts nodes links a (node_a nodes key) k ≡ not t → either t (on_some (equal_json way (f own)) (field_of (text_of pool texts (node_a nodes key)) (fields_from pool texts f nodes links b 0 (node_b nodes b)))) ≡ on_found (equal own) (pick (is_last_of pool texts nodes links a (node_a nodes key) k) (found_at (entry_value nodes links b) (last_entry pool texts nodes links b (node_a nodes key))) (Some own))
         counts true q = rw q self
         counts false q = rw q (field_of_last pool texts f nodes links b (node_a nodes key) (λ o l. on_some (equal_json way (f own)) o ≡ on_found (equal own) (found_at (entry_value nodes links b) l)) (λ j. refl) refl)
 
-        go : (t : Bool) → eqb (node_kind nodes key) 4 ≡ t → pick t (either (has_field (text_of pool texts (node_a nodes key)) (fields_from pool texts f nodes links a (suc k) n)) (on_some (equal_json way (f own)) (field_of (text_of pool texts (node_a nodes key)) (fields_from pool texts f nodes links b 0 (node_b nodes b))))) true ≡ on_found (equal own) (pick t (pick (is_last_of pool texts nodes links a (node_a nodes key) k) (found_at (entry_value nodes links b) (last_entry pool texts nodes links b (node_a nodes key))) (At own)) (At own))
+        go : (t : Bool) → eqb (node_kind nodes key) 4 ≡ t → pick t (either (has_field (text_of pool texts (node_a nodes key)) (fields_from pool texts f nodes links a (suc k) n)) (on_some (equal_json way (f own)) (field_of (text_of pool texts (node_a nodes key)) (fields_from pool texts f nodes links b 0 (node_b nodes b))))) true ≡ on_found (equal own) (pick t (pick (is_last_of pool texts nodes links a (node_a nodes key) k) (found_at (entry_value nodes links b) (last_entry pool texts nodes links b (node_a nodes key))) (Some own)) (Some own))
         go true q = counts (has_field (text_of pool texts (node_a nodes key)) (fields_from pool texts f nodes links a (suc k) n)) (is_last_field pool texts f nodes links a (node_a nodes key) k n h (own_key key q))
         go false q = self
 

@@ -6,9 +6,8 @@ use Rattle.number.specs.Equal.{equal_numbers_of}
 use Rattle.number.specs.declared.equal.Equality.{Equality}
 use Rattle.layout.specs.Layout.{node_kind, node_a, node_b}
 use Rattle.layout.specs.Walk.{every}
-use Rattle.lookup.specs.declared.Found.{Found}
-use Rattle.lookup.specs.declared.Found.TheVariants.{At, Nothing}
-use Rattle.lookup.specs.Find.{found_at}
+use Rattle.lookup.specs.Find.{Found, found_at}
+use Rattle.std.specs.Prelude.{Some, None}
 use Rattle.lookup.specs.Lookup.{entry_key, entry_value, item_node, last_entry}
 use Rattle.json_equality.specs.declared.shape.Shape.{Shape}
 use Rattle.json_equality.specs.declared.shape.Shape.TheVariants.{Null, Boolean, Numeric, Text, Array, Object}
@@ -36,12 +35,12 @@ equal_leaf_of way pool texts Object j = false
 
 -- ---- keys
 abbrev pub is_at : ℕ → Found → Bool
-is_at k (At j) = eqb j k
-is_at k Nothing = false
+is_at k (Some j) = eqb j k
+is_at k None = false
 
 abbrev pub is_found : Found → Bool
-is_found (At j) = true
-is_found Nothing = false
+is_found (Some j) = true
+is_found None = false
 
 -- entry k is the last of the object n with that key
 unfoldable pub is_last_of : List ℕ → List ℕ → List ℕ → List ℕ → ℕ → ℕ → ℕ → Bool
@@ -65,13 +64,13 @@ counterpart_of pool texts nodes links a b k =
     pick (eqb (node_kind nodes (entry_key nodes links a k)) 4)
     (pick (is_last_of pool texts nodes links a (node_a nodes (entry_key nodes links a k)) k)
     (key_value_of pool texts nodes links b (node_a nodes (entry_key nodes links a k)))
-    (At (entry_value nodes links a k)))
-    (At (entry_value nodes links a k))
+    (Some (entry_value nodes links a k)))
+    (Some (entry_value nodes links a k))
 
 -- ---- arrays and objects, from the equality of their children's values
 abbrev pub on_found : (ℕ → Bool) → Found → Bool
-on_found f (At v) = f v
-on_found f Nothing = false
+on_found f (Some v) = f v
+on_found f None = false
 
 unfoldable pub equal_at : Equality → List ℕ → List ℕ → List ℕ → List ℕ → List ℕ → ℕ → ℕ → ℕ → Bool
 equal_at way pool texts nodes links numbers depth a b =

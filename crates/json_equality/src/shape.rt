@@ -1,14 +1,16 @@
 // What a node stands for as a JSON value, without what an array or an object holds.
 ghost use Rattle.std.specs.Prelude.{◌≡◌, eqb};
+ghost use Rattle.layout.specs.Lent.{tables_of};
 ghost use Rattle.text.specs.Text.{text_of, same_bytes};
 ghost use Rattle.number.specs.Equal.{equal_numbers_of};
 ghost use Rattle.json_equality.specs.Json.{on_null, on_boolean, on_number, on_string};
 ghost use Rattle.json_equality.specs.Value.{real_shape, parsed_shape, shape_of};
 ghost use Rattle.json_equality.specs.Walk.{leaf_of, equal_leaf_of};
 
-use layout::words;
+use layout::{Tables, node, words};
 use number::equal::{Equality, Number};
 use number::{equal, real};
+use text::Texts;
 
 #[derive(Clone, Copy)]
 pub enum Shape {
@@ -31,50 +33,45 @@ fn real_shape(bits: u64) -> Shape
 }
 
 // A real by the place of its parsed bits; an unparsed one is null.
-fn parsed_shape(numbers: &[u64], place: u32) -> Shape
-    ensures { result ≡ parsed_shape numbers.now place }
+fn parsed_shape(t: &Tables, place: u32) -> Shape
+    ensures { let T = tables_of t.now in result ≡ parsed_shape T.numbers place }
 {
     if place == words::NONE {
         return Shape::Null;
     }
-    real_shape(text::number_word(numbers, place as usize))
+    real_shape(t.number(place))
 }
 
-pub fn shape_of(nodes: &[u32], numbers: &[u64], n: u32) -> Shape
-    ensures { result ≡ shape_of nodes.now numbers.now n }
+pub fn shape_of(t: &Tables, n: u32) -> Shape
+    ensures { let T = tables_of t.now in result ≡ shape_of T.nodes T.numbers n }
 {
-    let a = words::node_a(nodes, n);
-    match words::node_kind(nodes, n) {
-        1 => Shape::Boolean(a),
-        2 => Shape::Numeric(Number::Integer(text::number_word(numbers, a as usize))),
-        3 => parsed_shape(numbers, words::node_b(nodes, n)),
-        4 => Shape::Text(a),
-        5 => Shape::Array,
-        6 => Shape::Object,
+    let a = t.node_a(n);
+    match t.node_kind(n) {
+        node::BOOLEAN => Shape::Boolean(a),
+        node::INTEGER => Shape::Numeric(Number::Integer(t.number(a))),
+        node::REAL => parsed_shape(t, t.node_b(n)),
+        node::STRING => Shape::Text(a),
+        node::ARRAY => Shape::Array,
+        node::OBJECT => Shape::Object,
         _ => Shape::Null,
     }
 }
 
-fn is_null(pool: &[u8], texts: &[u32], y: Shape) -> bool
-    ensures { result ≡ on_null (leaf_of pool.now texts.now y) }
+fn is_null(texts: &Texts, y: Shape) -> bool
+    ensures { result ≡ on_null (leaf_of texts.now.pool.now texts.now.records.now y) }
 {
-    match y {
-        Shape::Null => true,
-        _ => false,
-    }
+    matches!(y, Shape::Null)
 }
 
-fn is_boolean(pool: &[u8], texts: &[u32], a: u32, y: Shape) -> bool
-    ensures { result ≡ on_boolean (eqb a) (leaf_of pool.now texts.now y) }
+fn is_boolean(texts: &Texts, a: u32, y: Shape) -> bool
+    ensures { result ≡ on_boolean (eqb a) (leaf_of texts.now.pool.now texts.now.records.now y) }
 {
-    match y {
-        Shape::Boolean(b) => a == b,
-        _ => false,
-    }
+    matches!(y, Shape::Boolean(b) if a == b)
 }
 
-fn is_number(way: Equality, pool: &[u8], texts: &[u32], v: Number, y: Shape) -> bool
-    ensures { result ≡ on_number (equal_numbers_of way v) (leaf_of pool.now texts.now y) }
+fn is_number(way: Equality, texts: &Texts, v: Number, y: Shape) -> bool
+    ensures { result ≡ on_number (equal_numbers_of way v)
+        (leaf_of texts.now.pool.now texts.now.records.now y) }
 {
     match y {
         Shape::Numeric(w) => equal::equal_numbers(way, v, w),
@@ -82,27 +79,29 @@ fn is_number(way: Equality, pool: &[u8], texts: &[u32], v: Number, y: Shape) -> 
     }
 }
 
-fn is_text(pool: &[u8], texts: &[u32], t: u32, y: Shape) -> bool
-    ensures { result ≡ on_string (same_bytes (text_of pool.now texts.now t)) (leaf_of pool.now texts.now y) }
+fn is_text(texts: &Texts, t: u32, y: Shape) -> bool
+    ensures { result ≡ on_string (same_bytes (text_of texts.now.pool.now texts.now.records.now t))
+        (leaf_of texts.now.pool.now texts.now.records.now y) }
 {
     match y {
         Shape::Text(u) => {
-            let bytes = text::text(pool, texts, u);
-            lookup::is_text(pool, texts, t, u, bytes)
+            let bytes = texts.text(u);
+            lookup::is_text(texts, t, u, bytes)
         }
         _ => false,
     }
 }
 
 // Whether a value that is neither array nor object equals another.
-pub fn equal_leaf(way: Equality, pool: &[u8], texts: &[u32], x: Shape, y: Shape) -> bool
-    ensures { result ≡ equal_leaf_of way pool.now texts.now x (leaf_of pool.now texts.now y) }
+pub fn equal_leaf(way: Equality, texts: &Texts, x: Shape, y: Shape) -> bool
+    ensures { result ≡ equal_leaf_of way texts.now.pool.now texts.now.records.now x
+        (leaf_of texts.now.pool.now texts.now.records.now y) }
 {
     match x {
-        Shape::Null => is_null(pool, texts, y),
-        Shape::Boolean(a) => is_boolean(pool, texts, a, y),
-        Shape::Numeric(v) => is_number(way, pool, texts, v, y),
-        Shape::Text(t) => is_text(pool, texts, t, y),
+        Shape::Null => is_null(texts, y),
+        Shape::Boolean(a) => is_boolean(texts, a, y),
+        Shape::Numeric(v) => is_number(way, texts, v, y),
+        Shape::Text(t) => is_text(texts, t, y),
         Shape::Array => false,
         Shape::Object => false,
     }

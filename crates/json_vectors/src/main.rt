@@ -3,21 +3,14 @@
 
 ghost use Rattle.std.specs.Prelude.{◌≤◌, ◌<◌, length};
 
+use layout::Tables;
 use number::equal::Equality;
 
-// The way by number: 0 enum, 1 unique, 2 standard.
-fn way(k: u32) -> Equality {
-    match k {
-        0 => Equality::Enum,
-        1 => Equality::Unique,
-        _ => Equality::Standard,
-    }
-}
+// Two nodes, and the ways in which they are equal: bit 2 is enum, bit 1 unique, bit 0 standard.
+type Row = (u32, u32, u32);
 
-// 1 where nodes a and b compare otherwise than expected, else 0.
-fn wrong(k: u32, a: u32, b: u32, expected: bool) -> u64
-    ensures { result ≤ 1 }
-{
+// Whether nodes a and b compare otherwise than expected.
+fn is_wrong(way: Equality, a: u32, b: u32, expected: bool) -> bool {
     let pool: &[u8] = b"ab1a";
     let texts: [u32; 8] = [0, 1, 1, 1, 2, 1, 3, 1];
     let nodes: [u32; 196] = [
@@ -89,105 +82,88 @@ fn wrong(k: u32, a: u32, b: u32, expected: bool) -> u64
         0x4340000000000000, // 2^53 as a real
         0x1, // 1 again
     ];
-    let equal = json_equality::equal_nodes(way(k), pool, &texts, &nodes, &links, &numbers, a, b);
-    if equal == expected {
-        return 0;
-    }
-    1
+    let tables = Tables::new(pool, &texts, &nodes, &[], &[], &[], &[], &links, &numbers);
+    json_equality::equal_nodes(way, &tables, a, b) != expected
 }
 
-// What a row expects in the way k: bit 2 is enum, bit 1 unique, bit 0 standard.
-fn expected(mask: u32, k: u32) -> bool {
-    match k {
-        0 => mask / 4 % 2 == 1,
-        1 => mask / 2 % 2 == 1,
-        _ => mask % 2 == 1,
-    }
-}
-
-// How many ways are wrong about row i: two nodes, and the ways in which they are equal.
-fn row_wrong(rows: &[u32], i: usize) -> u64
-    requires { i < 1000 }
+// How many ways are wrong about a row.
+fn row_wrong(row: Row) -> u64
     ensures { result ≤ 3 }
 {
-    let a = text::word(rows, i * 3);
-    let b = text::word(rows, i * 3 + 1);
-    let mask = text::word(rows, i * 3 + 2);
-    wrong(0, a, b, expected(mask, 0))
-        + wrong(1, a, b, expected(mask, 1))
-        + wrong(2, a, b, expected(mask, 2))
+    let (a, b, ways) = row;
+    is_wrong(Equality::Enum, a, b, ways & 4 != 0) as u64
+        + is_wrong(Equality::Unique, a, b, ways & 2 != 0) as u64
+        + is_wrong(Equality::Standard, a, b, ways & 1 != 0) as u64
 }
 
-fn rows_wrong(rows: &[u32]) -> u64
+fn rows_wrong(rows: &[Row]) -> u64
     requires { length rows.now < 1000 }
 {
-    let mut sum: u64 = 0;
-    let mut i = 0;
-    while i < rows.len() / 3 {
-        sum += row_wrong(rows, i);
-        i += 1;
+    let mut sum = 0;
+    for &row in rows {
+        sum += row_wrong(row);
     }
     sum
 }
 
 fn main() {
-    let rows: [u32; 162] = [
-        0, 1, 0b111, // null and alias
-        0, 2, 0b111, // null and bad value
-        2, 1, 0b111, // bad value and alias
-        0, 12, 0b111, // null and a real that parse refuses
-        13, 0, 0b111, // an infinity and null
-        14, 13, 0b111, // a NaN and an infinity
-        0, 3, 0b000, // null and false
-        0, 23, 0b000, // null and []
-        3, 4, 0b000, // false and true
-        4, 4, 0b111, // true and true
-        5, 8, 0b111, // 1 and 1, another number of the table
-        5, 6, 0b000, // 1 and 2
-        4, 5, 0b000, // true and 1
-        5, 9, 0b001, // 1 and 1.0
-        9, 5, 0b001, // 1.0 and 1
-        9, 15, 0b111, // 1.0 and 1.0, which only parse takes
-        12, 9, 0b000, // a real that parse refuses and 1.0
-        10, 11, 0b101, // 0.0 and -0.0
-        7, 10, 0b001, // 0 and 0.0
-        7, 11, 0b001, // 0 and -0.0
-        7, 3, 0b000, // 0 and false
-        16, 18, 0b001, // 2^53 + 1 and 2^53 as a real
-        17, 18, 0b001, // 2^53 and 2^53 as a real
-        16, 17, 0b000, // 2^53 + 1 and 2^53
-        19, 22, 0b111, // "a" and "a", another text of the table
-        19, 20, 0b000, // "a" and "b"
-        21, 5, 0b000, // "1" and 1
-        23, 33, 0b000, // [] and {}
-        23, 23, 0b111, // [] and []
-        24, 25, 0b111, // [1] and [1] again
-        24, 26, 0b001, // [1] and [1.0]
-        24, 27, 0b000, // [1] and [1, 2]
-        27, 24, 0b000, // [1, 2] and [1]
-        27, 28, 0b000, // [1, 2] and [2, 1]
-        29, 30, 0b101, // [0.0] and [-0.0]
-        31, 32, 0b111, // [null] and [alias]
-        23, 31, 0b000, // [] and [null]
-        34, 35, 0b111, // {a: 1, b: 2} and {b: 2, a: 1}
-        34, 36, 0b111, // {a: 1, b: 2} and {a: 2, a: 1, b: 2}
-        36, 35, 0b111, // {a: 2, a: 1, b: 2} and {b: 2, a: 1}
-        34, 37, 0b000, // {a: 1, b: 2} and {a: 1, b: 2, a: 2}
-        36, 37, 0b000, // {a: 2, a: 1, b: 2} and {a: 1, b: 2, a: 2}
-        38, 39, 0b111, // {a: 1} and {a: 1, 1: 2}
-        39, 34, 0b000, // {a: 1, 1: 2} and {a: 1, b: 2}
-        38, 34, 0b000, // {a: 1} and {a: 1, b: 2}
-        34, 38, 0b000, // {a: 1, b: 2} and {a: 1}
-        40, 35, 0b001, // {a: 1.0, b: 2} and {b: 2, a: 1}
-        33, 41, 0b111, // {} and {1: 2}
-        33, 42, 0b000, // {} and {a: null}
-        42, 33, 0b000, // {a: null} and {}
-        42, 43, 0b000, // {a: null} and {b: null}
-        44, 45, 0b111, // {a: [1]} and {a: [1] again}
-        44, 46, 0b001, // {a: [1]} and {a: [1.0]}
-        47, 48, 0b101, // {a: 0.0} and {a: -0.0}
+    let rows: [Row; 54] = [
+        (0, 1, 0b111), // null and alias
+        (0, 2, 0b111), // null and bad value
+        (2, 1, 0b111), // bad value and alias
+        (0, 12, 0b111), // null and a real that parse refuses
+        (13, 0, 0b111), // an infinity and null
+        (14, 13, 0b111), // a NaN and an infinity
+        (0, 3, 0b000), // null and false
+        (0, 23, 0b000), // null and []
+        (3, 4, 0b000), // false and true
+        (4, 4, 0b111), // true and true
+        (5, 8, 0b111), // 1 and 1, another number of the table
+        (5, 6, 0b000), // 1 and 2
+        (4, 5, 0b000), // true and 1
+        (5, 9, 0b001), // 1 and 1.0
+        (9, 5, 0b001), // 1.0 and 1
+        (9, 15, 0b111), // 1.0 and 1.0, which only parse takes
+        (12, 9, 0b000), // a real that parse refuses and 1.0
+        (10, 11, 0b101), // 0.0 and -0.0
+        (7, 10, 0b001), // 0 and 0.0
+        (7, 11, 0b001), // 0 and -0.0
+        (7, 3, 0b000), // 0 and false
+        (16, 18, 0b001), // 2^53 + 1 and 2^53 as a real
+        (17, 18, 0b001), // 2^53 and 2^53 as a real
+        (16, 17, 0b000), // 2^53 + 1 and 2^53
+        (19, 22, 0b111), // "a" and "a", another text of the table
+        (19, 20, 0b000), // "a" and "b"
+        (21, 5, 0b000), // "1" and 1
+        (23, 33, 0b000), // [] and {}
+        (23, 23, 0b111), // [] and []
+        (24, 25, 0b111), // [1] and [1] again
+        (24, 26, 0b001), // [1] and [1.0]
+        (24, 27, 0b000), // [1] and [1, 2]
+        (27, 24, 0b000), // [1, 2] and [1]
+        (27, 28, 0b000), // [1, 2] and [2, 1]
+        (29, 30, 0b101), // [0.0] and [-0.0]
+        (31, 32, 0b111), // [null] and [alias]
+        (23, 31, 0b000), // [] and [null]
+        (34, 35, 0b111), // {a: 1, b: 2} and {b: 2, a: 1}
+        (34, 36, 0b111), // {a: 1, b: 2} and {a: 2, a: 1, b: 2}
+        (36, 35, 0b111), // {a: 2, a: 1, b: 2} and {b: 2, a: 1}
+        (34, 37, 0b000), // {a: 1, b: 2} and {a: 1, b: 2, a: 2}
+        (36, 37, 0b000), // {a: 2, a: 1, b: 2} and {a: 1, b: 2, a: 2}
+        (38, 39, 0b111), // {a: 1} and {a: 1, 1: 2}
+        (39, 34, 0b000), // {a: 1, 1: 2} and {a: 1, b: 2}
+        (38, 34, 0b000), // {a: 1} and {a: 1, b: 2}
+        (34, 38, 0b000), // {a: 1, b: 2} and {a: 1}
+        (40, 35, 0b001), // {a: 1.0, b: 2} and {b: 2, a: 1}
+        (33, 41, 0b111), // {} and {1: 2}
+        (33, 42, 0b000), // {} and {a: null}
+        (42, 33, 0b000), // {a: null} and {}
+        (42, 43, 0b000), // {a: null} and {b: null}
+        (44, 45, 0b111), // {a: [1]} and {a: [1] again}
+        (44, 46, 0b001), // {a: [1]} and {a: [1.0]}
+        (47, 48, 0b101), // {a: 0.0} and {a: -0.0}
     ];
-    io::print_decimal(1, 162);
+    io::print_decimal(1, 3 * rows.len() as u64);
     io::write_all(1, b" vectors, ");
     io::print_decimal(1, rows_wrong(&rows));
     io::write_all(1, b" wrong\n");

@@ -3,13 +3,12 @@ use mathlib.Core.Path.{◌≡◌, refl}
 use Prim.Native.Nat.{ℕ}
 use Rattle.error.specs.declared.Mode.{Mode}
 use Rattle.layout.specs.Layout.{Tables, schema_kind, list_first, list_count}
-use Rattle.lookup.specs.declared.Found.{Found}
+use Rattle.lookup.specs.Find.{Found}
 use Rattle.schema.specs.Look.{words_of, slice, own_words, own_of, array_of}
-use Rattle.judge.specs.declared.Verdict.TheVariants.{Fine}
-use Rattle.judge.specs.Judge.{boolean_verdict, number_verdict, string_verdict, null_verdict, enum_verdict, array_verdict, judge_of}
+use Rattle.judge.specs.Judge.{fine, boolean_verdict, number_verdict, string_verdict, null_verdict, enum_verdict, array_verdict, judge_of}
 
 module _ (T : Tables) (m : Mode) (answer : ℕ → ℕ → Found) (s n : ℕ) where
-  pub judge_true : schema_kind T.schemas s ≡ 0 → judge_of T m answer (own_of (words_of T) s) n ≡ Fine
+  pub judge_true : schema_kind T.schemas s ≡ 0 → judge_of T m answer (own_of (words_of T) s) n ≡ fine
   unfolding judge_of own_of
   judge_true h = rw h
 
@@ -33,7 +32,7 @@ module _ (T : Tables) (m : Mode) (answer : ℕ → ℕ → Found) (s n : ℕ) wh
   unfolding judge_of own_of
   judge_enum h = rw h
 
-  pub judge_any : schema_kind T.schemas s ≡ 6 → judge_of T m answer (own_of (words_of T) s) n ≡ Fine
+  pub judge_any : schema_kind T.schemas s ≡ 6 → judge_of T m answer (own_of (words_of T) s) n ≡ fine
   unfolding judge_of own_of
   judge_any h = rw h
 

@@ -5,9 +5,10 @@ pub mod numeric;
 pub mod string;
 
 ghost use Rattle.std.specs.Prelude.{◌≡◌};
+ghost use Rattle.layout.specs.Lent.{tables_of};
 ghost use Rattle.judge.specs.Judge.{
-  is_fine,
   mismatch,
+  kind_verdict,
   is_short,
   is_long,
   count_verdict,
@@ -15,99 +16,93 @@ ghost use Rattle.judge.specs.Judge.{
   null_verdict,
 };
 
-use error::Detail;
-use layout::words;
+use error::{Detail, Reason};
 use layout::words::NONE;
+use layout::{Tables, kind, node};
 
+// What is wrong with a value, or why that cannot be said.
 #[derive(Clone, Copy)]
-pub enum Verdict {
-    Fine,
-    // The answer's number, the node that it names, the detail.
-    Wrong(u32, u32, Detail),
+pub enum Wrong {
+    // What is wrong, the node that it names, the detail.
+    Value {
+        reason: Reason,
+        node: u32,
+        detail: Detail,
+    },
     BadPattern,
     Unanswered,
 }
 
-pub fn is_fine(v: Verdict) -> bool
-    ensures { result ≡ is_fine v }
-{
-    match v {
-        Verdict::Fine => true,
-        Verdict::Wrong(_, _, _) => false,
-        Verdict::BadPattern => false,
-        Verdict::Unanswered => false,
-    }
-}
-
 // Whether a count is under a minimum.
+#[tactic(auto, unfolding(crate::specs::Judge::is_short))]
 fn is_short(count: u32, least: u32) -> bool
     ensures { result ≡ is_short count least }
 {
-    if least == NONE {
-        return false;
-    }
-    count < least
+    least != NONE && count < least
 }
 
-// Whether a count is over a maximum.
+// Whether a count is over a maximum: `is_short` the other way round, which a parameter for the comparison would not shorten.
+#[tactic(auto, unfolding(crate::specs::Judge::is_long))]
 fn is_long(count: u32, most: u32) -> bool
     ensures { result ≡ is_long count most }
 {
-    if most == NONE {
-        return false;
-    }
-    most < count
+    most != NONE && most < count
 }
 
 // A count against a minimum, then a maximum.
-pub fn check_count(number: u32, n: u32, least: u32, most: u32, count: u32) -> Verdict
-    ensures { result ≡ count_verdict number n least most count }
+#[tactic(auto, unfolding(crate::specs::Judge::count_verdict))]
+pub fn check_count(reason: Reason, n: u32, least: u32, most: u32, count: u32) -> Result<(), Wrong>
+    ensures { result ≡ count_verdict reason n least most count }
 {
-    if is_short(count, least) {
-        return Verdict::Wrong(
-            number,
-            n,
-            Detail::Count {
-                count,
-                limit: least,
-            },
-        );
-    }
-    if is_long(count, most) {
-        return Verdict::Wrong(number, n, Detail::Count { count, limit: most });
-    }
-    Verdict::Fine
+    let limit = if is_short(count, least) {
+        least
+    } else if is_long(count, most) {
+        most
+    } else {
+        return Ok(());
+    };
+    Err(Wrong::Value {
+        reason,
+        node: n,
+        detail: Detail::Count { count, limit },
+    })
 }
 
 // Answer 1: the schema kind expected, and the node's kind.
-pub fn type_mismatch(nodes: &[u32], expected: u32, n: u32) -> Verdict
-    ensures { result ≡ mismatch nodes.now expected n }
+#[tactic(auto, unfolding(crate::specs::Judge::mismatch))]
+pub fn type_mismatch(t: &Tables, expected: u32, n: u32) -> Result<(), Wrong>
+    ensures { let T = tables_of t.now in result ≡ mismatch T.nodes expected n }
 {
-    Verdict::Wrong(
-        1,
-        n,
-        Detail::Types {
-            expected,
-            found: words::node_kind(nodes, n),
-        },
-    )
+    let found = t.node_kind(n);
+    Err(Wrong::Value {
+        reason: Reason::TypeMismatch,
+        node: n,
+        detail: Detail::Types { expected, found },
+    })
 }
 
-pub fn validate_boolean(nodes: &[u32], n: u32) -> Verdict
-    ensures { result ≡ boolean_verdict nodes.now n }
+// A node of that kind, or answer 1.
+pub fn check_kind(t: &Tables, kind: u32, expected: u32, n: u32) -> Result<(), Wrong>
+    ensures { let T = tables_of t.now in result ≡ kind_verdict T.nodes kind expected n }
 {
-    if words::node_kind(nodes, n) == 1 {
-        return Verdict::Fine;
+    if t.node_kind(n) == kind {
+        Ok(())
+    } else {
+        type_mismatch(t, expected, n)
     }
-    type_mismatch(nodes, 1, n)
+}
+
+#[tactic(auto, unfolding(crate::specs::Judge::boolean_verdict))]
+pub fn validate_boolean(t: &Tables, n: u32) -> Result<(), Wrong>
+    ensures { let T = tables_of t.now in result ≡ boolean_verdict T.nodes n }
+{
+    check_kind(t, node::BOOLEAN, kind::BOOLEAN, n)
 }
 
 // A bad value is no null.
-pub fn validate_null(nodes: &[u32], n: u32) -> Verdict
-    ensures { result ≡ null_verdict nodes.now n }
+#[tactic(auto, unfolding(crate::specs::Judge::null_verdict))]
+pub fn validate_null(t: &Tables, n: u32) -> Result<(), Wrong>
+    ensures { let T = tables_of t.now in result ≡ null_verdict T.nodes n }
 {
-    if words::node_kind(nodes, n) == 0 {
-        return Verdict::Fine;
-    }
-    type_mismatch(nodes, 4, n)
+    check_kind(t, node::NULL, kind::NULL, n)
 }

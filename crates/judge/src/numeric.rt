@@ -1,73 +1,78 @@
 // A number schema.
 ghost use Rattle.std.specs.Prelude.{◌≡◌};
+ghost use Rattle.layout.specs.Lent.{tables_of};
 ghost use Rattle.schema.specs.Look.{own_words};
 ghost use Rattle.judge.specs.Judge.{real_at, bounds_of, number_wrong, value_verdict, number_verdict};
 
-use crate::Verdict;
-use error::Detail;
+use crate::Wrong;
+use error::{Detail, Reason};
 use layout::words::NONE;
-use layout::{schema as fields, words};
-use number::tests::{Bounds, NumberCheck};
-
-// The pattern of a NaN.
-const NAN: u64 = 0x7ff8_0000_0000_0000;
+use layout::{Tables, kind, node};
+use number::tests::{Bounds, NumberFault};
 
 // A number of table 8, NaN where it is absent.
-fn real_at(numbers: &[u64], place: u32) -> f64
-    ensures { result ≡ real_at numbers.now place }
+#[tactic(auto, using(crate::proofs::Numbers::nan_pattern), unfolding(crate::specs::Judge::real_at))]
+pub fn real_at(t: &Tables, place: u32) -> f64
+    ensures { let T = tables_of t.now in result ≡ real_at T.numbers place }
 {
     if place == NONE {
-        return number::real::float_of(NAN);
+        return f64::NAN;
     }
-    number::real::float_of(text::number_word(numbers, place as usize))
+    number::real::float_of(t.number(place))
 }
 
-fn bounds(schemas: &[u32], numbers: &[u64], s: u32) -> Bounds
-    ensures { result ≡ bounds_of numbers.now (own_words schemas.now s 2 14) }
+fn bounds(t: &Tables, s: u32) -> Bounds
+    ensures { let T = tables_of t.now in result ≡ bounds_of T.numbers (own_words T.schemas s 2 14) }
 {
     Bounds {
-        minimum: real_at(numbers, fields::number_minimum(schemas, s)),
-        maximum: real_at(numbers, fields::number_maximum(schemas, s)),
-        exclusive_minimum: real_at(numbers, fields::number_exclusive_minimum(schemas, s)),
-        exclusive_maximum: real_at(numbers, fields::number_exclusive_maximum(schemas, s)),
-        multiple_of: real_at(numbers, fields::number_multiple(schemas, s)),
+        minimum: real_at(t, t.number_minimum(s)),
+        maximum: real_at(t, t.number_maximum(s)),
+        exclusive_minimum: real_at(t, t.number_exclusive_minimum(s)),
+        exclusive_maximum: real_at(t, t.number_exclusive_maximum(s)),
+        multiple_of: real_at(t, t.number_multiple(s)),
     }
 }
 
 // Answers 5 and 6.
-fn number_wrong(n: u32, check: NumberCheck) -> Verdict
+fn number_wrong(n: u32, check: Result<(), NumberFault>) -> Result<(), Wrong>
     ensures { result ≡ number_wrong n check }
 {
-    match check {
-        NumberCheck::Passes => Verdict::Fine,
-        NumberCheck::OutOfRange(range) => Verdict::Wrong(5, n, Detail::OutOfRange(range)),
-        NumberCheck::NotMultiple(value, multiple) => {
-            Verdict::Wrong(6, n, Detail::Multiple(value, multiple))
-        }
-    }
+    let (reason, detail) = match check {
+        Ok(()) => return Ok(()),
+        Err(NumberFault::OutOfRange(range)) => (Reason::OutOfRange, Detail::OutOfRange(range)),
+        Err(NumberFault::NotMultiple(value, multiple)) => (
+            Reason::NotMultiple,
+            Detail::Multiple(value, multiple),
+        ),
+    };
+    Err(Wrong::Value {
+        reason,
+        node: n,
+        detail,
+    })
 }
 
 // A value against the bounds of a number schema.
-fn check_value(schemas: &[u32], numbers: &[u64], value: f64, n: u32, s: u32) -> Verdict
-    ensures { result ≡ value_verdict numbers.now (own_words schemas.now s 2 14) n value }
+#[tactic(auto, unfolding(crate::specs::Judge::value_verdict))]
+fn check_value(t: &Tables, value: f64, n: u32, s: u32) -> Result<(), Wrong>
+    ensures { let T = tables_of t.now in
+        result ≡ value_verdict T.numbers (own_words T.schemas s 2 14) n value }
 {
-    number_wrong(
-        n,
-        number::tests::check_number(value, bounds(schemas, numbers, s)),
-    )
+    number_wrong(n, number::tests::check_number(value, bounds(t, s)))
 }
 
-pub fn validate_number(nodes: &[u32], schemas: &[u32], numbers: &[u64], n: u32, s: u32) -> Verdict
-    ensures { result ≡ number_verdict nodes.now numbers.now (own_words schemas.now s 2 14) n }
+#[tactic(auto, unfolding(crate::specs::Judge::number_verdict))]
+pub fn validate_number(t: &Tables, n: u32, s: u32) -> Result<(), Wrong>
+    ensures { let T = tables_of t.now in
+        result ≡ number_verdict T.nodes T.numbers (own_words T.schemas s 2 14) n }
 {
-    let kind = words::node_kind(nodes, n);
-    if kind == 2 {
-        let word = text::number_word(numbers, words::node_a(nodes, n) as usize);
-        return check_value(schemas, numbers, number::integer::nearest_f64(word), n, s);
-    }
-    if kind == 3 {
-        let value = real_at(numbers, words::node_a(nodes, n));
-        return check_value(schemas, numbers, value, n, s);
-    }
-    crate::type_mismatch(nodes, 2, n)
+    let value = match t.node_kind(n) {
+        node::INTEGER => {
+            let word = t.number(t.node_a(n));
+            number::integer::nearest_f64(word)
+        }
+        node::REAL => real_at(t, t.node_a(n)),
+        _ => return crate::type_mismatch(t, kind::NUMBER, n),
+    };
+    check_value(t, value, n, s)
 }

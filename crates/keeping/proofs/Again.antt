@@ -10,7 +10,7 @@ use Rattle.text.specs.Text.{padded}
 use Rattle.error.specs.declared.Used.{Used}
 use Rattle.error.specs.Answers.{with_used}
 use Rattle.layout.specs.Layout.{Tables, most_notes, most_schemas, most_links, note_count, schema_count}
-use Rattle.tables.specs.declared.check.Fault.TheVariants.{Sound}
+use Rattle.tables.specs.Found.{Sound}
 use Rattle.tables.specs.Check.{used_size, sizes_fault, records_fault, lent_fault, tables_fault}
 use Rattle.tables.proofs.Faults.{first_sound, second_sound, size_more}
 use Rattle.tables.proofs.Facts.{well_formed}

@@ -14,8 +14,9 @@ use Rattle.error.specs.Answers.{plain_answer, found_record, with_used, answer_of
 use Rattle.error.specs.Paths.{levels}
 use Rattle.layout.specs.Layout.{Tables, most_notes, most_schemas, most_links, note_count, schema_count}
 use Rattle.lookup.specs.Lookup.{find_in}
-use Rattle.tables.specs.declared.check.Fault.{Fault}
-use Rattle.tables.specs.declared.check.Fault.TheVariants.{Sound, Bad}
+use Rattle.std.specs.Prelude.{Ok, Err}
+use Rattle.tables.specs.Found.{Fault, Sound}
+use Rattle.tables.proofs.Numbers.{failure_number, Twenty, else_twenty, sizes_twenty, records_twenty}
 use Rattle.tables.specs.Check.{tables_fault}
 use Rattle.schema.specs.Look.{Words, words_of}
 use Rattle.compilation.specs.Compile.{Result, ok, refuse}
@@ -54,13 +55,17 @@ module _ (T : Tables) (u : Used) (s : ℕ) where
   abbrev outcome : Fault → Bool → Result ℕ → Compiled
   outcome f b x = or_fault T u f (pick b (untouched T (with_used (plain_answer 21) u)) (finished T u x))
 
-  done_at : (f : Fault) → used_fault T u ≡ f → (b : Bool) → leb u.schemas s ≡ b → (x : Result ℕ) → compiled_of T u s ≡ x → Says x → (outcome f b x).answer.number ≡ 0 → Done
+  done_at : (f : Fault) → Twenty f → used_fault T u ≡ f → (b : Bool) → leb u.schemas s ≡ b → (x : Result ℕ) → compiled_of T u s ≡ x → Says x → (outcome f b x).answer.number ≡ 0 → Done
   unfolding with_used answer_of
-  done_at (Bad table n) e b l x c y h = absurd (omega arith)
-  done_at Sound e true l x c y h = absurd (omega arith)
-  done_at Sound e false l (refuse n) c (because m z) h = absurd (z h)
-  done_at Sound e false l (ok r t) c y h =
+  done_at (Err failure) w e b l x c y h = absurd (omega (arith, failure_number failure, w))
+  done_at (Ok v) w e true l x c y h = absurd (omega arith)
+  done_at (Ok v) w e false l (refuse n) c (because m z) h = absurd (z h)
+  done_at (Ok v) w e false l (ok r t) c y h =
       record { sound = e; below = leb-false u.schemas s l; place = r; words = t; is = c; gives = unfold compile_of in rw (e, l, c) }
+
+  used_twenty : Twenty (used_fault T u)
+  unfolding used_fault
+  used_twenty = else_twenty _ _ (sizes_twenty _ _ _ _ _ _ _ _ _) (records_twenty (used_tables T u))
 
   says : Says (compiled_of T u s)
   unfolding compiled_of
@@ -68,7 +73,7 @@ module _ (T : Tables) (u : Used) (s : ℕ) where
 
   pub done : (compile_of T u s).answer.number ≡ 0 → Done
   unfolding compile_of
-  done h = done_at (used_fault T u) refl (leb u.schemas s) refl (compiled_of T u s) refl says h
+  done h = done_at (used_fault T u) used_twenty refl (leb u.schemas s) refl (compiled_of T u s) refl says h
 
   module _ (d : Done) where
     pub sound_tables : tables_fault (used_tables T u) ≡ Sound

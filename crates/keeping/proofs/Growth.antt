@@ -15,7 +15,7 @@ use Rattle.layout.specs.Layout.{Tables, most_notes, most_schemas, most_links, no
 use Rattle.records.specs.declared.Counts.{Counts}
 use Rattle.records.specs.Records.{counts_in, counts_of, note_ok, node_ok, entry_ok, pattern_ok}
 use Rattle.rules.specs.Schemas.{schema_ok}
-use Rattle.tables.specs.declared.check.Fault.TheVariants.{Sound}
+use Rattle.tables.specs.Found.{Sound}
 use Rattle.tables.specs.Check.{whole_size, sizes_fault, record_count, record_ok, first_bad, records_from, records_fault, lent_fault, tables_fault}
 use Rattle.tables.specs.Facts.{WellFormed}
 use Rattle.tables.proofs.Faults.{first_sound, size_more}

@@ -14,7 +14,7 @@ use Rattle.error.specs.declared.Used.{Used}
 use Rattle.error.specs.Paths.{levels}
 use Rattle.layout.specs.Layout.{Tables, NONE, schema_count, schema_word, schema_kind, schema_note, array_items, additional_properties, property_names}
 use Rattle.lookup.specs.Lookup.{find_in}
-use Rattle.tables.specs.declared.check.Fault.TheVariants.{Sound}
+use Rattle.tables.specs.Found.{Sound}
 use Rattle.tables.specs.Check.{tables_fault}
 use Rattle.tables.proofs.Facts.{Optional, present as below-limit, SchemaFacts, schema-facts}
 use Rattle.schema.specs.Shape.{Pair, Object, Shape, plain, any_of, all_of, array, object, ref}

@@ -6,15 +6,14 @@ use Prim.Native.Nat.{ℕ}
 use Rattle.text.specs.Text.{text_count, text_word, text_start, text_length, fits_in, part_of, text_of, same_bytes, same_text}
 use Rattle.layout.specs.Layout.{node_word, pair_key, pair_value}
 use Rattle.error.specs.Paths.{Step, key_step, item_step}
-use Rattle.lookup.specs.declared.Found.{Found}
-use Rattle.lookup.specs.declared.Found.TheVariants.{At, Nothing}
-use Rattle.lookup.specs.Find.{last_below}
+use Rattle.lookup.specs.Find.{Found, last_below}
+use Rattle.std.specs.Prelude.{Some, None}
 use Rattle.lookup.specs.Lookup.{key_is, entry_key, entry_value, item_node, entry_has_key, last_entry}
 use Rattle.navigate.specs.Walk.{and_then, entry_node, item_into, key_into, step_into, navigate_over}
 
 module _ (pool texts nodes links : List ℕ) (n : ℕ) where
   -- the empty path finds its start
-  pub empty-path : (wanted : Bool) → navigate_over pool texts nodes links wanted n [] ≡ At n
+  pub empty-path : (wanted : Bool) → navigate_over pool texts nodes links wanted n [] ≡ Some n
   unfolding navigate_over
   empty-path wanted = refl
 
@@ -41,18 +40,18 @@ pub at_small : Bool → ℕ → List Step → Found
 at_small wanted n path = navigate_over small_pool small_texts small_nodes small_links wanted n path
 
 -- the last entry with that key, compared by bytes; its key node where that is wanted; no item past the end; no key of an array
-pub worked_value : at_small false 4 (item_step 0 ∷ (key_step 1 ∷ [])) ≡ At 2
+pub worked_value : at_small false 4 (item_step 0 ∷ (key_step 1 ∷ [])) ≡ Some 2
 unfolding at_small small_pool small_texts small_nodes small_links navigate_over step_into key_into item_into entry_node last_entry last_below entry_has_key key_is entry_key entry_value item_node pair_key pair_value node_word same_text same_bytes text_of text_count part_of fits_in text_start text_length text_word
 worked_value = refl
 
-pub worked_key : at_small true 4 (item_step 0 ∷ (key_step 1 ∷ [])) ≡ At 0
+pub worked_key : at_small true 4 (item_step 0 ∷ (key_step 1 ∷ [])) ≡ Some 0
 unfolding at_small small_pool small_texts small_nodes small_links navigate_over step_into key_into item_into entry_node last_entry last_below entry_has_key key_is entry_key entry_value item_node pair_key pair_value node_word same_text same_bytes text_of text_count part_of fits_in text_start text_length text_word
 worked_key = refl
 
-pub worked_past_end : at_small false 4 (item_step 1 ∷ []) ≡ Nothing
+pub worked_past_end : at_small false 4 (item_step 1 ∷ []) ≡ None
 unfolding at_small small_pool small_texts small_nodes small_links navigate_over step_into item_into item_node node_word
 worked_past_end = refl
 
-pub worked_wrong_kind : at_small false 4 (key_step 0 ∷ []) ≡ Nothing
+pub worked_wrong_kind : at_small false 4 (key_step 0 ∷ []) ≡ None
 unfolding at_small small_pool small_texts small_nodes small_links navigate_over step_into key_into node_word
 worked_wrong_kind = refl

@@ -1,3 +1,4 @@
 pub mod Layout
 pub mod Walk
 pub mod Rows
+pub mod Lent

@@ -35,7 +35,8 @@ pub fn object_row(
     names: u32,
     naming: u32,
 ) -> [u32; 16]
-    ensures { result ≡ object_row note properties property_count patterns pattern_count additional required required_count minimum maximum closed names naming }
+    ensures { result ≡ object_row note properties property_count patterns pattern_count additional
+        required required_count minimum maximum closed names naming }
 {
     [
         10,
@@ -68,7 +69,8 @@ pub fn note_row(
     tags: u32,
     case_detection: u32,
 ) -> [u32; 9]
-    ensures { result ≡ note_row id description documentation error_message hidden completions additional_completions tags case_detection }
+    ensures { result ≡ note_row id description documentation error_message hidden completions
+        additional_completions tags case_detection }
 {
     [
         id,

@@ -36,6 +36,7 @@ ghost use Rattle.layout.specs.Layout.{
   ref_eager,
 };
 
+use crate::Tables;
 use crate::words::SCHEMA_WORDS;
 
 // Where the words stand that compiling reads by their place; a list is its first place and, in the next word, its count.
@@ -95,114 +96,6 @@ pub fn schema_note(schemas: &[u32], s: u32) -> u32
     schema_word(schemas, s, 1)
 }
 
-pub fn number_minimum(schemas: &[u32], s: u32) -> u32
-    ensures { result ≡ number_minimum schemas.now s }
-{
-    schema_word(schemas, s, 2)
-}
-
-pub fn number_maximum(schemas: &[u32], s: u32) -> u32
-    ensures { result ≡ number_maximum schemas.now s }
-{
-    schema_word(schemas, s, 3)
-}
-
-pub fn number_exclusive_minimum(schemas: &[u32], s: u32) -> u32
-    ensures { result ≡ number_exclusive_minimum schemas.now s }
-{
-    schema_word(schemas, s, 4)
-}
-
-pub fn number_exclusive_maximum(schemas: &[u32], s: u32) -> u32
-    ensures { result ≡ number_exclusive_maximum schemas.now s }
-{
-    schema_word(schemas, s, 5)
-}
-
-pub fn number_multiple(schemas: &[u32], s: u32) -> u32
-    ensures { result ≡ number_multiple schemas.now s }
-{
-    schema_word(schemas, s, 6)
-}
-
-pub fn string_minimum(schemas: &[u32], s: u32) -> u32
-    ensures { result ≡ string_minimum schemas.now s }
-{
-    schema_word(schemas, s, 2)
-}
-
-pub fn string_maximum(schemas: &[u32], s: u32) -> u32
-    ensures { result ≡ string_maximum schemas.now s }
-{
-    schema_word(schemas, s, 3)
-}
-
-pub fn string_pattern(schemas: &[u32], s: u32) -> u32
-    ensures { result ≡ string_pattern schemas.now s }
-{
-    schema_word(schemas, s, 4)
-}
-
-pub fn list_first(schemas: &[u32], s: u32) -> u32
-    ensures { result ≡ list_first schemas.now s }
-{
-    schema_word(schemas, s, 2)
-}
-
-pub fn list_count(schemas: &[u32], s: u32) -> u32
-    ensures { result ≡ list_count schemas.now s }
-{
-    schema_word(schemas, s, 3)
-}
-
-pub fn array_items(schemas: &[u32], s: u32) -> u32
-    ensures { result ≡ array_items schemas.now s }
-{
-    schema_word(schemas, s, 2)
-}
-
-pub fn array_minimum(schemas: &[u32], s: u32) -> u32
-    ensures { result ≡ array_minimum schemas.now s }
-{
-    schema_word(schemas, s, 3)
-}
-
-pub fn array_maximum(schemas: &[u32], s: u32) -> u32
-    ensures { result ≡ array_maximum schemas.now s }
-{
-    schema_word(schemas, s, 4)
-}
-
-pub fn array_unique(schemas: &[u32], s: u32) -> u32
-    ensures { result ≡ array_unique schemas.now s }
-{
-    schema_word(schemas, s, 5)
-}
-
-pub fn properties_first(schemas: &[u32], s: u32) -> u32
-    ensures { result ≡ properties_first schemas.now s }
-{
-    schema_word(schemas, s, 2)
-}
-
-pub fn properties_count(schemas: &[u32], s: u32) -> u32
-    ensures { result ≡ properties_count schemas.now s }
-{
-    schema_word(schemas, s, 3)
-}
-
-pub fn pattern_properties_first(schemas: &[u32], s: u32) -> u32
-    ensures { result ≡ pattern_properties_first schemas.now s }
-{
-    schema_word(schemas, s, 4)
-}
-
-pub fn pattern_properties_count(schemas: &[u32], s: u32) -> u32
-    ensures { result ≡ pattern_properties_count schemas.now s }
-{
-    schema_word(schemas, s, 5)
-}
-
 pub fn additional_properties(schemas: &[u32], s: u32) -> u32
     ensures { result ≡ additional_properties schemas.now s }
 {
@@ -251,26 +144,203 @@ pub fn naming_convention(schemas: &[u32], s: u32) -> u32
     schema_word(schemas, s, 13)
 }
 
-pub fn bases_first(schemas: &[u32], s: u32) -> u32
-    ensures { result ≡ bases_first schemas.now s }
-{
-    schema_word(schemas, s, 14)
-}
+// All of them in the tables of a call; compiling reads a table that grows, and the words above.
+impl Tables<'_> {
+    pub fn schema_word(&self, s: u32, k: u32) -> u32
+        ensures { result ≡ schema_word self.now.schemas.now s k }
+    {
+        schema_word(self.schemas, s, k)
+    }
 
-pub fn bases_count(schemas: &[u32], s: u32) -> u32
-    ensures { result ≡ bases_count schemas.now s }
-{
-    schema_word(schemas, s, 15)
-}
+    pub fn schema_kind(&self, s: u32) -> u32
+        ensures { result ≡ schema_kind self.now.schemas.now s }
+    {
+        schema_kind(self.schemas, s)
+    }
 
-pub fn ref_text(schemas: &[u32], s: u32) -> u32
-    ensures { result ≡ ref_text schemas.now s }
-{
-    schema_word(schemas, s, 2)
-}
+    pub fn schema_note(&self, s: u32) -> u32
+        ensures { result ≡ schema_note self.now.schemas.now s }
+    {
+        schema_note(self.schemas, s)
+    }
 
-pub fn ref_eager(schemas: &[u32], s: u32) -> u32
-    ensures { result ≡ ref_eager schemas.now s }
-{
-    schema_word(schemas, s, 3)
+    pub fn number_minimum(&self, s: u32) -> u32
+        ensures { result ≡ number_minimum self.now.schemas.now s }
+    {
+        self.schema_word(s, 2)
+    }
+
+    pub fn number_maximum(&self, s: u32) -> u32
+        ensures { result ≡ number_maximum self.now.schemas.now s }
+    {
+        self.schema_word(s, 3)
+    }
+
+    pub fn number_exclusive_minimum(&self, s: u32) -> u32
+        ensures { result ≡ number_exclusive_minimum self.now.schemas.now s }
+    {
+        self.schema_word(s, 4)
+    }
+
+    pub fn number_exclusive_maximum(&self, s: u32) -> u32
+        ensures { result ≡ number_exclusive_maximum self.now.schemas.now s }
+    {
+        self.schema_word(s, 5)
+    }
+
+    pub fn number_multiple(&self, s: u32) -> u32
+        ensures { result ≡ number_multiple self.now.schemas.now s }
+    {
+        self.schema_word(s, 6)
+    }
+
+    pub fn string_minimum(&self, s: u32) -> u32
+        ensures { result ≡ string_minimum self.now.schemas.now s }
+    {
+        self.schema_word(s, 2)
+    }
+
+    pub fn string_maximum(&self, s: u32) -> u32
+        ensures { result ≡ string_maximum self.now.schemas.now s }
+    {
+        self.schema_word(s, 3)
+    }
+
+    pub fn string_pattern(&self, s: u32) -> u32
+        ensures { result ≡ string_pattern self.now.schemas.now s }
+    {
+        self.schema_word(s, 4)
+    }
+
+    pub fn list_first(&self, s: u32) -> u32
+        ensures { result ≡ list_first self.now.schemas.now s }
+    {
+        self.schema_word(s, 2)
+    }
+
+    pub fn list_count(&self, s: u32) -> u32
+        ensures { result ≡ list_count self.now.schemas.now s }
+    {
+        self.schema_word(s, 3)
+    }
+
+    pub fn array_items(&self, s: u32) -> u32
+        ensures { result ≡ array_items self.now.schemas.now s }
+    {
+        self.schema_word(s, 2)
+    }
+
+    pub fn array_minimum(&self, s: u32) -> u32
+        ensures { result ≡ array_minimum self.now.schemas.now s }
+    {
+        self.schema_word(s, 3)
+    }
+
+    pub fn array_maximum(&self, s: u32) -> u32
+        ensures { result ≡ array_maximum self.now.schemas.now s }
+    {
+        self.schema_word(s, 4)
+    }
+
+    pub fn array_unique(&self, s: u32) -> u32
+        ensures { result ≡ array_unique self.now.schemas.now s }
+    {
+        self.schema_word(s, 5)
+    }
+
+    pub fn properties_first(&self, s: u32) -> u32
+        ensures { result ≡ properties_first self.now.schemas.now s }
+    {
+        self.schema_word(s, 2)
+    }
+
+    pub fn properties_count(&self, s: u32) -> u32
+        ensures { result ≡ properties_count self.now.schemas.now s }
+    {
+        self.schema_word(s, 3)
+    }
+
+    pub fn pattern_properties_first(&self, s: u32) -> u32
+        ensures { result ≡ pattern_properties_first self.now.schemas.now s }
+    {
+        self.schema_word(s, 4)
+    }
+
+    pub fn pattern_properties_count(&self, s: u32) -> u32
+        ensures { result ≡ pattern_properties_count self.now.schemas.now s }
+    {
+        self.schema_word(s, 5)
+    }
+
+    pub fn additional_properties(&self, s: u32) -> u32
+        ensures { result ≡ additional_properties self.now.schemas.now s }
+    {
+        additional_properties(self.schemas, s)
+    }
+
+    pub fn required_first(&self, s: u32) -> u32
+        ensures { result ≡ required_first self.now.schemas.now s }
+    {
+        required_first(self.schemas, s)
+    }
+
+    pub fn required_count(&self, s: u32) -> u32
+        ensures { result ≡ required_count self.now.schemas.now s }
+    {
+        required_count(self.schemas, s)
+    }
+
+    pub fn object_minimum(&self, s: u32) -> u32
+        ensures { result ≡ object_minimum self.now.schemas.now s }
+    {
+        object_minimum(self.schemas, s)
+    }
+
+    pub fn object_maximum(&self, s: u32) -> u32
+        ensures { result ≡ object_maximum self.now.schemas.now s }
+    {
+        object_maximum(self.schemas, s)
+    }
+
+    pub fn object_closed(&self, s: u32) -> u32
+        ensures { result ≡ object_closed self.now.schemas.now s }
+    {
+        object_closed(self.schemas, s)
+    }
+
+    pub fn property_names(&self, s: u32) -> u32
+        ensures { result ≡ property_names self.now.schemas.now s }
+    {
+        property_names(self.schemas, s)
+    }
+
+    pub fn naming_convention(&self, s: u32) -> u32
+        ensures { result ≡ naming_convention self.now.schemas.now s }
+    {
+        naming_convention(self.schemas, s)
+    }
+
+    pub fn bases_first(&self, s: u32) -> u32
+        ensures { result ≡ bases_first self.now.schemas.now s }
+    {
+        self.schema_word(s, 14)
+    }
+
+    pub fn bases_count(&self, s: u32) -> u32
+        ensures { result ≡ bases_count self.now.schemas.now s }
+    {
+        self.schema_word(s, 15)
+    }
+
+    pub fn ref_text(&self, s: u32) -> u32
+        ensures { result ≡ ref_text self.now.schemas.now s }
+    {
+        self.schema_word(s, 2)
+    }
+
+    pub fn ref_eager(&self, s: u32) -> u32
+        ensures { result ≡ ref_eager self.now.schemas.now s }
+    {
+        self.schema_word(s, 3)
+    }
 }

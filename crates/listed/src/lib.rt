@@ -2,15 +2,14 @@
 #![tactic(auto)]
 
 ghost use Rattle.std.specs.Prelude.{◌≡◌, ◌+◌, ◌-◌};
-ghost use Rattle.text.specs.Text.{text_of};
+ghost use Rattle.layout.specs.Lent.{tables_of};
 ghost use Rattle.layout.specs.Layout.{list_first, list_count};
 ghost use Rattle.schema.specs.Look.{slice, own_words};
 ghost use Rattle.judge.specs.Judge.{enum_way, unique_way, is_listed, any_repeated, items_of, enum_verdict, unique_verdict, array_verdict};
-ghost use Rattle.listed.specs.Listed.{is_text_listed};
 
-use error::{Detail, Mode};
-use judge::Verdict;
-use layout::{schema as fields, words};
+use error::{Detail, Mode, Reason};
+use judge::Wrong;
+use layout::{Tables, kind, node};
 use number::equal::Equality;
 
 pub fn enum_way(mode: Mode) -> Equality
@@ -22,6 +21,7 @@ pub fn enum_way(mode: Mode) -> Equality
     }
 }
 
+// Another map than `enum_way`: both by name are plainer than one with the source mode's equality as a parameter.
 fn unique_way(mode: Mode) -> Equality
     ensures { result ≡ unique_way mode }
 {
@@ -31,214 +31,83 @@ fn unique_way(mode: Mode) -> Equality
     }
 }
 
-// Whether n, by its whole value, equals one of the count nodes linked from first on, skipping the first `from` of them.
-fn is_value_listed(
-    way: Equality,
-    pool: &[u8],
-    texts: &[u32],
-    nodes: &[u32],
-    links: &[u32],
-    numbers: &[u64],
-    n: u32,
-    first: u32,
-    from: u32,
-    count: u32,
-) -> bool
-    ensures { result ≡ is_listed way pool.now texts.now nodes.now links.now numbers.now n (slice links.now (first + from) (count - from)) }
-{
-    let mut i = from;
-    while i < count {
-        let x = text::word(links, (first as usize) + (i as usize));
-        if json_equality::equal_nodes(way, pool, texts, nodes, links, numbers, n, x) {
-            return true;
-        }
-        i += 1;
-    }
-    false
-}
-
-// The same of a string with the bytes of that text, which are at hand.
-fn is_text_listed(
-    pool: &[u8],
-    texts: &[u32],
-    nodes: &[u32],
-    links: &[u32],
-    text: u32,
-    bytes: &[u8],
-    first: u32,
-    from: u32,
-    count: u32,
-) -> bool
-    requires { bytes.now ≡ text_of pool.now texts.now text }
-    ensures { result ≡ is_text_listed pool.now texts.now nodes.now text (slice links.now (first + from) (count - from)) }
-{
-    let mut i = from;
-    while i < count {
-        let x = text::word(links, (first as usize) + (i as usize));
-        if lookup::key_has(pool, texts, nodes, text, bytes, x) {
-            return true;
-        }
-        i += 1;
-    }
-    false
-}
-
 // Whether n equals one of the count nodes linked from first on, skipping the first `from` of them. A string equals only strings.
-fn is_listed(
-    way: Equality,
-    pool: &[u8],
-    texts: &[u32],
-    nodes: &[u32],
-    links: &[u32],
-    numbers: &[u64],
-    n: u32,
-    first: u32,
-    from: u32,
-    count: u32,
-) -> bool
-    ensures { result ≡ is_listed way pool.now texts.now nodes.now links.now numbers.now n (slice links.now (first + from) (count - from)) }
+fn is_listed(way: Equality, t: &Tables, n: u32, first: u32, from: u32, count: u32) -> bool
+    ensures { let T = tables_of t.now in
+        result ≡ is_listed way T.pool T.texts T.nodes T.links T.numbers n
+        (slice T.links (first + from) (count - from)) }
 {
-    if words::node_kind(nodes, n) == 4 {
-        let text = words::node_a(nodes, n);
-        let bytes = text::text(pool, texts, text);
-        return is_text_listed(pool, texts, nodes, links, text, bytes, first, from, count);
+    let linked = |i: u32| t.link(first, i);
+    if t.node_kind(n) == node::STRING {
+        let text = t.node_a(n);
+        let bytes = t.texts.text(text);
+        return (from..count).any(|i| lookup::key_has(t, text, bytes, linked(i)));
     }
-    is_value_listed(
-        way, pool, texts, nodes, links, numbers, n, first, from, count,
-    )
+    (from..count).any(|i| { json_equality::equal_nodes(way, t, n, linked(i)) })
 }
 
 // Whether one of the count nodes linked from first on equals a later one.
-fn any_repeated(
-    way: Equality,
-    pool: &[u8],
-    texts: &[u32],
-    nodes: &[u32],
-    links: &[u32],
-    numbers: &[u64],
-    first: u32,
-    count: u32,
-) -> bool
-    ensures { result ≡ any_repeated way pool.now texts.now nodes.now links.now numbers.now (slice links.now first count) }
+fn any_repeated(way: Equality, t: &Tables, first: u32, count: u32) -> bool
+    ensures { let T = tables_of t.now in
+        result ≡ any_repeated way T.pool T.texts T.nodes T.links T.numbers
+        (slice T.links first count) }
 {
-    let mut i = 0;
-    while i < count {
-        let x = text::word(links, (first as usize) + (i as usize));
-        if is_listed(
-            way,
-            pool,
-            texts,
-            nodes,
-            links,
-            numbers,
-            x,
-            first,
-            i + 1,
-            count,
-        ) {
+    for i in 0..count {
+        let x = t.link(first, i);
+        if is_listed(way, t, x, first, i + 1, count) {
             return true;
         }
-        i += 1;
     }
     false
 }
 
-pub fn validate_enum(
-    mode: Mode,
-    pool: &[u8],
-    texts: &[u32],
-    nodes: &[u32],
-    schemas: &[u32],
-    links: &[u32],
-    numbers: &[u64],
-    n: u32,
-    s: u32,
-) -> Verdict
-    ensures { result ≡ enum_verdict mode pool.now texts.now nodes.now links.now numbers.now (slice links.now (list_first schemas.now s) (list_count schemas.now s)) n }
+#[tactic(auto, using(schema::proofs::Slices::slice_begin), unfolding(judge::specs::Judge::enum_verdict))]
+pub fn validate_enum(mode: Mode, t: &Tables, n: u32, s: u32) -> Result<(), Wrong>
+    ensures { let T = tables_of t.now in
+        result ≡ enum_verdict mode T.pool T.texts T.nodes T.links T.numbers
+        (slice T.links (list_first T.schemas s) (list_count T.schemas s)) n }
 {
-    let first = fields::list_first(schemas, s);
-    let count = fields::list_count(schemas, s);
-    if is_listed(
-        enum_way(mode),
-        pool,
-        texts,
-        nodes,
-        links,
-        numbers,
-        n,
-        first,
-        0,
-        count,
-    ) {
-        return Verdict::Fine;
+    let first = t.list_first(s);
+    let count = t.list_count(s);
+    if is_listed(enum_way(mode), t, n, first, 0, count) {
+        return Ok(());
     }
-    Verdict::Wrong(4, n, Detail::Empty)
+    Err(Wrong::Value {
+        reason: Reason::NotInEnum,
+        node: n,
+        detail: Detail::Empty,
+    })
 }
 
-fn check_unique(
-    mode: Mode,
-    pool: &[u8],
-    texts: &[u32],
-    nodes: &[u32],
-    links: &[u32],
-    numbers: &[u64],
-    unique: u32,
-    n: u32,
-) -> Verdict
-    ensures { result ≡ unique_verdict mode pool.now texts.now nodes.now links.now numbers.now unique n }
+#[tactic(auto, unfolding(judge::specs::Judge::unique_verdict, judge::specs::Judge::items_of))]
+fn check_unique(mode: Mode, t: &Tables, unique: u32, n: u32) -> Result<(), Wrong>
+    ensures { let T = tables_of t.now in
+        result ≡ unique_verdict mode T.pool T.texts T.nodes T.links T.numbers unique n }
 {
-    if unique != 1 {
-        return Verdict::Fine;
+    let first = t.node_a(n);
+    let count = t.node_b(n);
+    if unique == 1 && any_repeated(unique_way(mode), t, first, count) {
+        return Err(Wrong::Value {
+            reason: Reason::NotUnique,
+            node: n,
+            detail: Detail::Empty,
+        });
     }
-    let first = words::node_a(nodes, n);
-    let count = words::node_b(nodes, n);
-    if any_repeated(
-        unique_way(mode),
-        pool,
-        texts,
-        nodes,
-        links,
-        numbers,
-        first,
-        count,
-    ) {
-        return Verdict::Wrong(10, n, Detail::Empty);
-    }
-    Verdict::Fine
+    Ok(())
 }
 
 // An array before its items: type, minimum, maximum, unique.
-pub fn check_array(
-    mode: Mode,
-    pool: &[u8],
-    texts: &[u32],
-    nodes: &[u32],
-    schemas: &[u32],
-    links: &[u32],
-    numbers: &[u64],
-    n: u32,
-    s: u32,
-) -> Verdict
-    ensures { result ≡ array_verdict mode pool.now texts.now nodes.now links.now numbers.now (own_words schemas.now s 3 3) n }
+#[tactic(auto, using(crate::proofs::Lists::array_fits, crate::proofs::Lists::array_misfits, judge::proofs::Verdicts::first_fine, judge::proofs::Verdicts::first_wrong_lem))]
+pub fn check_array(mode: Mode, t: &Tables, n: u32, s: u32) -> Result<(), Wrong>
+    ensures { let T = tables_of t.now in
+        result ≡ array_verdict mode T.pool T.texts T.nodes T.links T.numbers
+        (own_words T.schemas s 3 3) n }
 {
-    if words::node_kind(nodes, n) != 5 {
-        return judge::type_mismatch(nodes, 9, n);
-    }
-    let count = words::node_b(nodes, n);
-    let least = fields::array_minimum(schemas, s);
-    let most = fields::array_maximum(schemas, s);
-    let sized = judge::check_count(9, n, least, most, count);
-    if judge::is_fine(sized) {
-        return check_unique(
-            mode,
-            pool,
-            texts,
-            nodes,
-            links,
-            numbers,
-            fields::array_unique(schemas, s),
-            n,
-        );
-    }
-    sized
+    judge::check_kind(t, node::ARRAY, kind::ARRAY, n)?;
+    let count = t.node_b(n);
+    let least = t.array_minimum(s);
+    let most = t.array_maximum(s);
+    judge::check_count(Reason::ArrayLength, n, least, most, count)?;
+    let unique = t.array_unique(s);
+    check_unique(mode, t, unique, n)
 }

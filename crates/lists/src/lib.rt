@@ -1,8 +1,8 @@
-// Lists in the links, and tests joined. Sums are taken in 64 bits, so that no damaged record wraps.
+// Lists in the links. Sums are taken in 64 bits, so that no damaged record wraps.
 #![tactic(auto)]
 
-ghost use Rattle.std.specs.Prelude.{◌≡◌, ◌+◌, ◌*◌, ◌≤◌, length};
-ghost use Rattle.text.specs.Choice.{both, either};
+ghost use Rattle.std.specs.Prelude.{◌≡◌};
+ghost use Rattle.layout.specs.Lent.{tables_of};
 ghost use Rattle.text.specs.Text.{text_of};
 ghost use Rattle.layout.specs.Layout.{pair_key};
 ghost use Rattle.lists.specs.Lists.{
@@ -15,137 +15,75 @@ ghost use Rattle.lists.specs.Lists.{
   pairs_ok,
 };
 
-use layout::links::{pair_key, pair_value};
+use layout::Tables;
 use layout::words::NONE;
 
-pub fn both(a: bool, b: bool) -> bool
-    ensures { result ≡ both a b }
-{
-    if a { b } else { false }
-}
-
-pub fn either(a: bool, b: bool) -> bool
-    ensures { result ≡ either a b }
-{
-    if a { true } else { b }
-}
-
 // Whether an optional number is absent, or below the limit.
+#[tactic(auto, unfolding(crate::specs::Lists::optional_below))]
 pub fn optional_below(w: u32, limit: usize) -> bool
     ensures { result ≡ optional_below w limit }
 {
-    either(w == NONE, (w as usize) < limit)
+    w == NONE || (w as usize) < limit
 }
 
 // Whether the count links from first on are there, and name records below the limit.
-pub fn list_below(links: &[u32], first: u32, count: usize, limit: usize) -> bool
-    ensures { result ≡ list_below links.now first count limit }
+pub fn list_below(t: &Tables, first: u32, count: usize, limit: usize) -> bool
+    ensures { let T = tables_of t.now in result ≡ list_below T.links first count limit }
 {
-    let start = first as usize;
-    if links.len() < start {
+    let Some(rest) = t.links.get(first as usize..) else {
         return false;
-    }
-    if links.len() - start < count {
+    };
+    let Some(list) = rest.get(..count) else {
         return false;
-    }
-    let end = start + count;
-    let mut k = start;
-    while k < end {
-        if limit <= text::wide(links[k]) {
-            return false;
-        }
-        k += 1;
-    }
-    true
+    };
+    list.iter().all(|link| text::wide(*link) < limit)
 }
 
 // Whether pair k holds a text and a schema below their limits.
-fn pair_ok(links: &[u32], first: u32, texts: usize, limit: usize, k: u32) -> bool
-    ensures { result ≡ pair_ok links.now first texts limit k }
+#[tactic(auto, unfolding(crate::specs::Lists::pair_ok))]
+fn pair_ok(t: &Tables, first: u32, known: usize, limit: usize, k: u32) -> bool
+    ensures { let T = tables_of t.now in result ≡ pair_ok T.links first known limit k }
 {
-    both(
-        text::wide(pair_key(links, first, k)) < texts,
-        text::wide(pair_value(links, first, k)) < limit,
-    )
+    text::wide(t.pair_key(first, k)) < known && text::wide(t.pair_value(first, k)) < limit
 }
 
 // Whether the pairs are there, and each is good.
-fn pairs_below(links: &[u32], first: u32, count: u32, texts: usize, limit: usize) -> bool
-    ensures { result ≡ pairs_below links.now first count texts limit }
+fn pairs_below(t: &Tables, first: u32, count: u32, known: usize, limit: usize) -> bool
+    ensures { let T = tables_of t.now in result ≡ pairs_below T.links first count known limit }
 {
-    if links.len() < (first as usize) + (count as usize) * 2 {
-        return false;
-    }
-    let mut k = 0;
-    while k < count {
-        if pair_ok(links, first, texts, limit, k) {
-            k += 1;
-        } else {
-            return false;
-        }
-    }
-    true
+    (first as usize) + (count as usize) * 2 <= t.links.len()
+        && (0..count).all(|k| pair_ok(t, first, known, limit, k))
 }
 
-// Whether the key of pair j, whose bytes are at hand, differs in bytes from those before it.
-fn key_is_new_with(
-    pool: &[u8],
-    texts: &[u32],
-    links: &[u32],
-    first: u32,
-    j: u32,
-    bytes: &[u8],
-) -> bool
-    requires { bytes.now ≡ text_of pool.now texts.now (pair_key links.now first j) }
-    ensures { result ≡ key_is_new pool.now texts.now links.now first j }
+// Whether the key of pair j, whose bytes are at hand (as `lookup::is_text` has them), differs in bytes from those before it.
+fn key_is_new_with(t: &Tables, first: u32, j: u32, bytes: &[u8]) -> bool
+    requires { let T = tables_of t.now in
+        bytes.now ≡ text_of T.pool T.texts (pair_key T.links first j) }
+    ensures { let T = tables_of t.now in result ≡ key_is_new T.pool T.texts T.links first j }
 {
-    let key = pair_key(links, first, j);
-    let mut i = 0;
-    while i < j {
-        if lookup::is_text(pool, texts, pair_key(links, first, i), key, bytes) {
-            return false;
-        }
-        i += 1;
-    }
-    true
+    let key = t.pair_key(first, j);
+    (0..j).all(|i| !lookup::is_text(&t.texts, t.pair_key(first, i), key, bytes))
 }
 
 // Whether the key of pair j differs in bytes from those before it.
-fn key_is_new(pool: &[u8], texts: &[u32], links: &[u32], first: u32, j: u32) -> bool
-    ensures { result ≡ key_is_new pool.now texts.now links.now first j }
+fn key_is_new(t: &Tables, first: u32, j: u32) -> bool
+    ensures { let T = tables_of t.now in result ≡ key_is_new T.pool T.texts T.links first j }
 {
-    let bytes = text::text(pool, texts, pair_key(links, first, j));
-    key_is_new_with(pool, texts, links, first, j, bytes)
+    let bytes = t.texts.text(t.pair_key(first, j));
+    key_is_new_with(t, first, j, bytes)
 }
 
-fn keys_distinct(pool: &[u8], texts: &[u32], links: &[u32], first: u32, count: u32) -> bool
-    ensures { result ≡ keys_distinct pool.now texts.now links.now first count }
+fn keys_distinct(t: &Tables, first: u32, count: u32) -> bool
+    ensures { let T = tables_of t.now in result ≡ keys_distinct T.pool T.texts T.links first count }
 {
-    let mut j = 0;
-    while j < count {
-        if key_is_new(pool, texts, links, first, j) {
-            j += 1;
-        } else {
-            return false;
-        }
-    }
-    true
+    (0..count).all(|j| key_is_new(t, first, j))
 }
 
 // Whether a properties or pattern list is good. Keys are compared only once the pairs are known to be there.
-pub fn pairs_ok(
-    pool: &[u8],
-    texts: &[u32],
-    links: &[u32],
-    first: u32,
-    count: u32,
-    known: usize,
-    limit: usize,
-) -> bool
-    ensures { result ≡ pairs_ok pool.now texts.now links.now first count known limit }
+#[tactic(auto, unfolding(crate::specs::Lists::pairs_ok))]
+pub fn pairs_ok(t: &Tables, first: u32, count: u32, known: usize, limit: usize) -> bool
+    ensures { let T = tables_of t.now in
+        result ≡ pairs_ok T.pool T.texts T.links first count known limit }
 {
-    if pairs_below(links, first, count, known, limit) {
-        return keys_distinct(pool, texts, links, first, count);
-    }
-    false
+    pairs_below(t, first, count, known, limit) && keys_distinct(t, first, count)
 }

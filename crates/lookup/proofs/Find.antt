@@ -11,9 +11,8 @@ use native.Mathlib.Numerals.{add-one}
 use native.Mathlib.Omega.{arith}
 use Rattle.text.specs.Choice.{true_or_false, clash}
 use Rattle.text.proofs.Count.{one_more, none_left}
-use Rattle.lookup.specs.declared.Found.{Found}
-use Rattle.lookup.specs.declared.Found.TheVariants.{At, Nothing}
-use Rattle.lookup.specs.Find.{last_below, first_from, found}
+use Rattle.lookup.specs.Find.{Found, last_below, first_from, found}
+use Rattle.std.specs.Prelude.{Some, None}
 
 last_place : (k : ℕ) → 0 < k → k ≡ suc (k - 1)
 last_place k h = omega arith
@@ -31,11 +30,11 @@ module _ (f : ℕ → Bool) {x : Found} where
     unfolding last_below
     last_more h t = rw (last_place k h, t) at inv
 
-    pub last_stop : 0 < k → f (k - 1) ≡ true → At (k - 1) ≡ x
+    pub last_stop : 0 < k → f (k - 1) ≡ true → Some (k - 1) ≡ x
     unfolding last_below
     last_stop h t = rw (last_place k h, t) at inv
 
-    pub last_end : k ≤ 0 → Nothing ≡ x
+    pub last_end : k ≤ 0 → None ≡ x
     unfolding last_below
     last_end h = rw (no_place k h) at inv
 
@@ -44,11 +43,11 @@ module _ (f : ℕ → Bool) {x : Found} where
     unfolding first_from
     first_more h t = rw (add-one i) (rw (one_more i e h, t, add-one i) at inv)
 
-    pub first_stop : i < e → f i ≡ true → At i ≡ x
+    pub first_stop : i < e → f i ≡ true → Some i ≡ x
     unfolding first_from
     first_stop h t = rw (one_more i e h, t) at inv
 
-    pub first_end : e ≤ i → Nothing ≡ x
+    pub first_end : e ≤ i → None ≡ x
     unfolding first_from
     first_end h = rw (none_left i e h) at inv
 
@@ -63,7 +62,7 @@ found_where f i (suc n) h =
     (true_or_false (f i))
 
 -- where it fails everywhere, nothing is found
-pub found_nowhere : (f : ℕ → Bool) (i n : ℕ) → ((j : ℕ) → j < i + n → f j ≡ false) → first_from f i n ≡ Nothing
+pub found_nowhere : (f : ℕ → Bool) (i n : ℕ) → ((j : ℕ) → j < i + n → f j ≡ false) → first_from f i n ≡ None
 unfolding first_from
 found_nowhere f i zero h = refl
 found_nowhere f i (suc n) h = rw (h i (omega arith)) (found_nowhere f (suc i) n (λ j l. h j (omega arith)))

@@ -11,10 +11,10 @@ use borrow.Author.Tests.{eq-eqb, ne_eqb, ltb-true, lt-ltb, le-ltb}
 use Rattle.text.specs.Choice.{true_or_false, both_left, both_right}
 use Rattle.text.specs.Text.{text_length, text_fits, text_of, same_bytes, same_text}
 use Rattle.text.proofs.Bytes.{same_no_length}
-use Rattle.text.proofs.Texts.{text_long, text_out}
+use Rattle.text.proofs.Parts.{text_long, text_out}
 use Rattle.layout.specs.Layout.{node_kind, node_a, pair_key, pair_value, entry_text, pattern_text, subject_text}
-use Rattle.lookup.specs.declared.Found.{Found}
-use Rattle.lookup.specs.declared.Found.TheVariants.{At, Nothing}
+use Rattle.lookup.specs.Find.{Found}
+use Rattle.std.specs.Prelude.{Some, None}
 use Rattle.lookup.specs.Lookup.{other_length, key_is, pair_has_key, property_place, property_of, entry_is_named, answers_pattern}
 
 not_equal : (a b : ℕ) → not (eqb a b) ≡ true → a ≡ b → ⊥
@@ -77,10 +77,10 @@ module _ (pool texts : List ℕ) where
 
 -- a property's schema, from its place
 module _ (pool texts links : List ℕ) (first count text : ℕ) {f : Found} (e : f ≡ property_place pool texts links first count text) where
-  pub place_value : {k v : ℕ} → f ≡ At k → v ≡ pair_value links first k → At v ≡ property_of pool texts links first count text
+  pub place_value : {k v : ℕ} → f ≡ Some k → v ≡ pair_value links first k → Some v ≡ property_of pool texts links first count text
   unfolding property_of
   place_value h q = rw (sym e ∙ h, q)
 
-  pub place_none : f ≡ Nothing → Nothing ≡ property_of pool texts links first count text
+  pub place_none : f ≡ None → None ≡ property_of pool texts links first count text
   unfolding property_of
   place_none h = rw (sym e ∙ h)

@@ -4,8 +4,7 @@ use Rattle.std.proofs.Math.Option.{Option}
 use Rattle.text.specs.Choice.{both}
 use Rattle.text.specs.Text.{text_length, same_text}
 use Rattle.layout.specs.Layout.{Tables, node_kind, node_a, node_b, pair_key, pair_value, entry_text, entry_schema, entry_count, pattern_text, subject_text, pattern_answer, pattern_count}
-use Rattle.lookup.specs.declared.Found.{Found}
-use Rattle.lookup.specs.Find.{last_below, first_from, found_at, to_option}
+use Rattle.lookup.specs.Find.{Found, last_below, first_from, found_at, to_option}
 
 -- by its record alone, text t does not have the n bytes, of which there is one at least
 unfoldable pub other_length : List ℕ → ℕ → ℕ → Bool

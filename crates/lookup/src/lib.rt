@@ -2,6 +2,7 @@
 #![tactic(auto)]
 
 ghost use Rattle.std.specs.Prelude.{◌≡◌};
+ghost use Rattle.layout.specs.Lent.{tables_of};
 ghost use Rattle.text.specs.Text.{text_of, same_bytes, same_text};
 ghost use Rattle.lookup.specs.Lookup.{
   other_length,
@@ -18,15 +19,12 @@ ghost use Rattle.lookup.specs.Lookup.{
   answer_of_pattern,
 };
 
-use layout::{links, words};
+use layout::{Tables, node, words};
+use text::Texts;
 
-#[derive(Clone, Copy)]
-pub enum Found {
-    At(u32),
-    Nothing,
-}
-
-// Whether two slices hold the same bytes, by the last byte first: names that differ mostly end differently.
+// Whether two slices hold the same bytes, by the last byte first: names that differ mostly end differently. `last()` of both,
+// compared as options, takes half as many instructions again for a pair.
+#[inline(always)]
 fn same_from_end(a: &[u8], b: &[u8]) -> bool
     ensures { result ≡ same_bytes a.now b.now }
 {
@@ -34,234 +32,151 @@ fn same_from_end(a: &[u8], b: &[u8]) -> bool
     if n != b.len() {
         return false;
     }
-    if 0 < n {
-        if a[n - 1] != b[n - 1] {
-            return false;
-        }
+    if 0 < n && a[n - 1] != b[n - 1] {
+        return false;
     }
     text::same(a, b)
 }
 
 // Whether the record of text t rules out n bytes; a record that runs off gives the empty text, whatever it says.
-fn other_length(texts: &[u32], t: u32, n: usize) -> bool
-    ensures { result ≡ other_length texts.now t n }
+fn other_length(texts: &Texts, t: u32, n: usize) -> bool
+    ensures { result ≡ other_length texts.now.records.now t n }
 {
-    if 0 < n {
-        return text::text_length(texts, t as usize) != n;
-    }
-    false
+    0 < n && texts.length(t as usize) != n
 }
 
-// Whether text t has the bytes of that text, which are at hand.
-pub fn is_text(pool: &[u8], texts: &[u32], t: u32, text: u32, bytes: &[u8]) -> bool
-    requires { bytes.now ≡ text_of pool.now texts.now text }
-    ensures { result ≡ same_text pool.now texts.now t text }
+// Whether text t has the bytes of that text, which are at hand. They go beside the texts with their `requires`: one value of text and bytes
+// would bring texts of its own, and each search would have to ask that they are these. Part of its callers' loops, as `key_has`.
+#[inline(always)]
+pub fn is_text(texts: &Texts, t: u32, text: u32, bytes: &[u8]) -> bool
+    requires { bytes.now ≡ text_of texts.now.pool.now texts.now.records.now text }
+    ensures { result ≡ same_text texts.now.pool.now texts.now.records.now t text }
 {
-    if t == text {
-        return true;
-    }
-    if other_length(texts, t, bytes.len()) {
-        return false;
-    }
-    same_from_end(text::text(pool, texts, t), bytes)
+    t == text || (!other_length(texts, t, bytes.len()) && same_from_end(texts.text(t), bytes))
 }
 
-// Whether a node is a string with the bytes of that text, which are at hand.
-pub fn key_has(pool: &[u8], texts: &[u32], nodes: &[u32], text: u32, bytes: &[u8], key: u32) -> bool
-    requires { bytes.now ≡ text_of pool.now texts.now text }
-    ensures { result ≡ key_is pool.now texts.now nodes.now text key }
+// Whether a node is a string with the bytes of that text, which are at hand. It stands in the loops of enum, unique and keys, so it
+// is to be part of them.
+#[inline(always)]
+pub fn key_has(t: &Tables, text: u32, bytes: &[u8], key: u32) -> bool
+    requires { let T = tables_of t.now in bytes.now ≡ text_of T.pool T.texts text }
+    ensures { let T = tables_of t.now in result ≡ key_is T.pool T.texts T.nodes text key }
 {
-    if words::node_kind(nodes, key) == 4 {
-        return is_text(pool, texts, words::node_a(nodes, key), text, bytes);
-    }
-    false
+    t.node_kind(key) == node::STRING && is_text(&t.texts, t.node_a(key), text, bytes)
 }
 
 // The key node of an object's entry k.
-pub fn entry_key(nodes: &[u32], links: &[u32], n: u32, k: u32) -> u32
-    ensures { result ≡ entry_key nodes.now links.now n k }
+pub fn entry_key(t: &Tables, n: u32, k: u32) -> u32
+    ensures { let T = tables_of t.now in result ≡ entry_key T.nodes T.links n k }
 {
-    links::pair_key(links, words::node_a(nodes, n), k)
+    t.pair_key(t.node_a(n), k)
 }
 
 // The value node of an object's entry k.
-pub fn entry_value(nodes: &[u32], links: &[u32], n: u32, k: u32) -> u32
-    ensures { result ≡ entry_value nodes.now links.now n k }
+pub fn entry_value(t: &Tables, n: u32, k: u32) -> u32
+    ensures { let T = tables_of t.now in result ≡ entry_value T.nodes T.links n k }
 {
-    links::pair_value(links, words::node_a(nodes, n), k)
+    t.pair_value(t.node_a(n), k)
 }
 
 // The node of an array's item k.
-pub fn item(nodes: &[u32], links: &[u32], n: u32, k: u32) -> u32
-    ensures { result ≡ item_node nodes.now links.now n k }
+pub fn item(t: &Tables, n: u32, k: u32) -> u32
+    ensures { let T = tables_of t.now in result ≡ item_node T.nodes T.links n k }
 {
-    let first = words::node_a(nodes, n);
-    text::word(links, (first as usize) + (k as usize))
+    let first = t.node_a(n);
+    t.link(first, k)
 }
 
-fn entry_has_key(
-    pool: &[u8],
-    texts: &[u32],
-    nodes: &[u32],
-    links: &[u32],
-    n: u32,
-    text: u32,
-    bytes: &[u8],
-    k: u32,
-) -> bool
-    requires { bytes.now ≡ text_of pool.now texts.now text }
-    ensures { result ≡ entry_has_key pool.now texts.now nodes.now links.now n text k }
+fn entry_has_key(t: &Tables, n: u32, text: u32, bytes: &[u8], k: u32) -> bool
+    requires { let T = tables_of t.now in bytes.now ≡ text_of T.pool T.texts text }
+    ensures { let T = tables_of t.now in
+        result ≡ entry_has_key T.pool T.texts T.nodes T.links n text k }
 {
-    key_has(
-        pool,
-        texts,
-        nodes,
-        text,
-        bytes,
-        entry_key(nodes, links, n, k),
-    )
+    key_has(t, text, bytes, entry_key(t, n, k))
 }
 
 // The last entry of an object with that string key, whose bytes are at hand.
-fn last_with(
-    pool: &[u8],
-    texts: &[u32],
-    nodes: &[u32],
-    links: &[u32],
-    n: u32,
-    text: u32,
-    bytes: &[u8],
-) -> Found
-    requires { bytes.now ≡ text_of pool.now texts.now text }
-    ensures { result ≡ last_entry pool.now texts.now nodes.now links.now n text }
+fn last_with(t: &Tables, n: u32, text: u32, bytes: &[u8]) -> Option<u32>
+    requires { let T = tables_of t.now in bytes.now ≡ text_of T.pool T.texts text }
+    ensures { let T = tables_of t.now in result ≡ last_entry T.pool T.texts T.nodes T.links n text }
 {
-    let mut k = words::node_b(nodes, n);
-    while 0 < k {
-        k -= 1;
-        if entry_has_key(pool, texts, nodes, links, n, text, bytes, k) {
-            return Found::At(k);
+    for k in (0..t.node_b(n)).rev() {
+        if entry_has_key(t, n, text, bytes, k) {
+            return Some(k);
         }
     }
-    Found::Nothing
+    None
 }
 
 // The last entry of an object with that string key.
-pub fn last_entry(
-    pool: &[u8],
-    texts: &[u32],
-    nodes: &[u32],
-    links: &[u32],
-    n: u32,
-    text: u32,
-) -> Found
-    ensures { result ≡ last_entry pool.now texts.now nodes.now links.now n text }
+pub fn last_entry(t: &Tables, n: u32, text: u32) -> Option<u32>
+    ensures { let T = tables_of t.now in result ≡ last_entry T.pool T.texts T.nodes T.links n text }
 {
-    let bytes = text::text(pool, texts, text);
-    last_with(pool, texts, nodes, links, n, text, bytes)
+    let bytes = t.texts.text(text);
+    last_with(t, n, text, bytes)
 }
 
 // The place of the pair with that key, whose bytes are at hand.
-fn place_with(
-    pool: &[u8],
-    texts: &[u32],
-    links: &[u32],
-    first: u32,
-    count: u32,
-    text: u32,
-    bytes: &[u8],
-) -> Found
-    requires { bytes.now ≡ text_of pool.now texts.now text }
-    ensures { result ≡ property_place pool.now texts.now links.now first count text }
+fn place_with(t: &Tables, first: u32, count: u32, text: u32, bytes: &[u8]) -> Option<u32>
+    requires { let T = tables_of t.now in bytes.now ≡ text_of T.pool T.texts text }
+    ensures { let T = tables_of t.now in
+        result ≡ property_place T.pool T.texts T.links first count text }
 {
-    let mut k = 0;
-    while k < count {
-        if is_text(pool, texts, links::pair_key(links, first, k), text, bytes) {
-            return Found::At(k);
+    for k in 0..count {
+        if is_text(&t.texts, t.pair_key(first, k), text, bytes) {
+            return Some(k);
         }
-        k += 1;
     }
-    Found::Nothing
+    None
 }
 
 // The place of a property of that name.
-pub fn property_place(
-    pool: &[u8],
-    texts: &[u32],
-    links: &[u32],
-    first: u32,
-    count: u32,
-    text: u32,
-) -> Found
-    ensures { result ≡ property_place pool.now texts.now links.now first count text }
+pub fn property_place(t: &Tables, first: u32, count: u32, text: u32) -> Option<u32>
+    ensures { let T = tables_of t.now in
+        result ≡ property_place T.pool T.texts T.links first count text }
 {
-    let bytes = text::text(pool, texts, text);
-    place_with(pool, texts, links, first, count, text, bytes)
+    let bytes = t.texts.text(text);
+    place_with(t, first, count, text, bytes)
 }
 
 // The schema of a property of that name.
-pub fn property(
-    pool: &[u8],
-    texts: &[u32],
-    links: &[u32],
-    first: u32,
-    count: u32,
-    text: u32,
-) -> Found
-    ensures { result ≡ property_of pool.now texts.now links.now first count text }
+pub fn property(t: &Tables, first: u32, count: u32, text: u32) -> Option<u32>
+    ensures { let T = tables_of t.now in
+        result ≡ property_of T.pool T.texts T.links first count text }
 {
-    match property_place(pool, texts, links, first, count, text) {
-        Found::At(k) => Found::At(links::pair_value(links, first, k)),
-        Found::Nothing => Found::Nothing,
-    }
+    let k = property_place(t, first, count, text)?;
+    Some(t.pair_value(first, k))
 }
 
 // The schema of the last registry entry of that name.
-pub fn resolve(pool: &[u8], texts: &[u32], registry: &[u32], text: u32) -> Found
-    ensures { result ≡ resolve_of pool.now texts.now registry.now text }
+pub fn resolve(texts: &Texts, registry: &[u32], text: u32) -> Option<u32>
+    ensures { result ≡
+        resolve_of texts.now.pool.now texts.now.records.now registry.now text }
 {
-    let mut i = words::entry_count(registry);
-    while 0 < i {
-        i -= 1;
-        if text::same_text(pool, texts, words::entry_text(registry, i), text) {
-            return Found::At(words::entry_schema(registry, i));
+    for i in (0..words::entry_count(registry)).rev() {
+        if texts.same(words::entry_text(registry, i), text) {
+            return Some(words::entry_schema(registry, i));
         }
     }
-    Found::Nothing
+    None
 }
 
-fn answers_pattern(
-    pool: &[u8],
-    texts: &[u32],
-    patterns: &[u32],
-    pattern: u32,
-    subject: u32,
-    i: usize,
-) -> bool
-    ensures { result ≡ answers_pattern pool.now texts.now patterns.now pattern subject i }
+fn answers_pattern(t: &Tables, pattern: u32, subject: u32, i: usize) -> bool
+    ensures { let T = tables_of t.now in
+        result ≡ answers_pattern T.pool T.texts T.patterns pattern subject i }
 {
-    if text::same_text(pool, texts, words::pattern_text(patterns, i), pattern) {
-        return text::same_text(pool, texts, words::subject_text(patterns, i), subject);
-    }
-    false
+    t.texts.same(t.pattern_text(i), pattern) && t.texts.same(t.subject_text(i), subject)
 }
 
 // The first answer to that pattern and subject: 0 no, 1 match, 2 invalid.
-pub fn pattern_answer(
-    pool: &[u8],
-    texts: &[u32],
-    patterns: &[u32],
-    pattern: u32,
-    subject: u32,
-) -> Found
-    ensures { result ≡ answer_of_pattern pool.now texts.now patterns.now pattern subject }
+pub fn pattern_answer(t: &Tables, pattern: u32, subject: u32) -> Option<u32>
+    ensures { let T = tables_of t.now in
+        result ≡ answer_of_pattern T.pool T.texts T.patterns pattern subject }
 {
-    let n = words::pattern_count(patterns);
-    let mut i = 0;
-    while i < n {
-        if answers_pattern(pool, texts, patterns, pattern, subject, i) {
-            return Found::At(words::pattern_answer(patterns, i));
+    for i in 0..t.pattern_count() {
+        if answers_pattern(t, pattern, subject, i) {
+            return Some(t.pattern_answer(i));
         }
-        i += 1;
     }
-    Found::Nothing
+    None
 }

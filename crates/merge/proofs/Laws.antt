@@ -5,16 +5,15 @@ use mathlib.Core.Bool.{Bool, true, false}
 use mathlib.Core.List.{List, [], ◌∷◌, ◌++◌, append_assoc, append-nil}
 use native.Mathlib.Omega.{arith}
 use native.Mathlib.Numerals.{add-one}
-use lib.ListN.{length, get_or, take, set, length-set, length-append}
-use lib.Seq.{take-length, take-set-le, get_or-set_same, get_or-set_other, take-suc}
+use lib.ListN.{length, get_or, take, drop, set, length-set, length-append, drop_of_length-le}
+use Rattle.std.specs.Prelude.{Option, Some, None}
+use lib.Seq.{get_or-set_same, get_or-set_other, take-suc, drop-cons}
 use Rattle.text.specs.Choice.{pick}
-use Rattle.layout.specs.Layout.{most_links, schema_word}
+use Rattle.layout.specs.Layout.{schema_word, pair_key, pair_value}
 use Rattle.schema.specs.Shape.{Pair}
 use Rattle.merge.specs.Merge.{put, put_all}
-use Rattle.merge.specs.Pairs.{pair, pairs_at, flat_pairs, merge_all, record_pairs, span}
-use Rattle.merge.specs.Meets.{Room, Reads, Placed, Gathers}
-use Rattle.merge.specs.declared.Put.{Put}
-use Rattle.merge.proofs.Lists.{part_same}
+use Rattle.merge.specs.Pairs.{pair, pairs_at, flat_pairs, merge_all, record_pairs}
+use Rattle.merge.specs.Meets.{Placed}
 
 pub pairs-length : (L : List ℕ) (at n : ℕ) → length (pairs_at L at n) ≡ n
 unfolding pairs_at
@@ -56,6 +55,19 @@ pairs_set L at k v (suc n) (suc j) h l =
     let b : get_or (both-set L (at + 2 + j * 2) k v) (at + 1) 0 ≡ get_or L (at + 1) 0 = get_or-set_other (set L (at + 2 + j * 2) k) (at + 2 + j * 2 + 1) (at + 1) v 0 (λ z. omega arith) ∙ get_or-set_other L (at + 2 + j * 2) (at + 1) k 0 (λ z. omega arith) in
     subst (λ (i : ℕ). pairs_at (both-set L i k v) at (suc n) ≡ pairs_at L at (suc j) ++ (pair k v ∷ pairs_at L (i + 2) (suc n - (suc j + 1)))) (sym e) (rw (m, a, b) (ap (λ (x : List (Pair ℕ)). pair (get_or L at 0) (get_or L (at + 1) 0) ∷ x) (pairs_set L (at + 2) k v n j (omega arith) (omega arith))))
 
+-- the two cases of a result
+pub placed-some : (R R' : List ℕ) (ps : List (Pair ℕ)) (n : ℕ) → pairs_at R' 0 n ≡ ps → n * 2 ≤ length R → length R' ≡ length R → Placed R R' ps (Some n)
+placed-some R R' ps n a b l =
+    record {
+      stand = λ m e. (let z : n ≡ m = cc in rw (← z) a);
+      room = λ m e. (let z : n ≡ m = cc in omega arith);
+      full = λ e. absurd cc;
+      long = l;
+    }
+
+pub placed-none : (R R' : List ℕ) (ps : List (Pair ℕ)) → length R < length ps * 2 → length R' ≡ length R → Placed R R' ps None
+placed-none R R' ps f l = record { stand = λ m e. absurd cc; room = λ m e. absurd cc; full = λ _. f; long = l }
+
 module _ (same : ℕ → ℕ → Bool) where
   put_least_pick : (b : Bool) (q p : Pair ℕ) (ps rest : List (Pair ℕ)) → length ps ≤ length rest → suc (length ps) ≤ length (pick b (q ∷ ps) (p ∷ rest))
   put_least_pick true q p ps rest h = omega arith
@@ -72,259 +84,179 @@ module _ (same : ℕ → ℕ → Bool) where
   merge_least acc (q ∷ qs) = omega (arith, put_least q acc, merge_least (put same q acc) qs)
 
   -- put_pair after j turns
-  pub record Seeking (L : List ℕ) (ul n : ℕ) (q : Pair ℕ) (j : ℕ) : Type 0 where
+  pub record Seeking (R : List ℕ) (n : ℕ) (q : Pair ℕ) (j : ℕ) : Type 0 where
     pub turn : j ≤ n
-    pub room : Room L ul n
-    pub rest : put same q (pairs_at L ul n) ≡ pairs_at L ul j ++ put same q (pairs_at L (ul + j * 2) (n - j))
+    pub fits : n * 2 ≤ length R
+    pub rest : put same q (pairs_at R 0 n) ≡ pairs_at R 0 j ++ put same q (pairs_at R (j * 2) (n - j))
 
-  pub seek-none : (L : List ℕ) (ul n : ℕ) (q : Pair ℕ) → Room L ul n → Seeking L ul n q 0
+  pub seek-none : (R : List ℕ) (n : ℕ) (q : Pair ℕ) → n * 2 ≤ length R → Seeking R n q 0
   unfolding pairs_at
-  seek-none L ul n q r =
-      let a : ul + 0 * 2 ≡ ul = omega arith in
+  seek-none R n q h =
       let b : n - 0 ≡ n = omega arith in
-      record { turn = omega arith; room = r; rest = rw (a, b) }
+      record { turn = omega arith; fits = h; rest = rw b }
 
-  module _ (L : List ℕ) (ul n k v j : ℕ) (g : Seeking L ul n (pair k v) j) where
+  module _ (R : List ℕ) (n k v j : ℕ) (g : Seeking R n (pair k v) j) where
     left : j < n → n - j ≡ suc (n - (j + 1))
     left h = omega arith
 
-    seek-step : j < n → same (get_or L (ul + j * 2) 0) k ≡ false → put same (pair k v) (pairs_at L (ul + j * 2) (n - j)) ≡ pair (get_or L (ul + j * 2) 0) (get_or L (ul + j * 2 + 1) 0) ∷ put same (pair k v) (pairs_at L (ul + (j + 1) * 2) (n - (j + 1)))
+    seek-step : j < n → same (get_or R (j * 2) 0) k ≡ false → put same (pair k v) (pairs_at R (j * 2) (n - j)) ≡ pair (get_or R (j * 2) 0) (get_or R (j * 2 + 1) 0) ∷ put same (pair k v) (pairs_at R ((j + 1) * 2) (n - (j + 1)))
     unfolding pairs_at put
-    seek-step h e = let a : ul + (j + 1) * 2 ≡ ul + j * 2 + 2 = omega arith in rw (left h, e, a)
+    seek-step h e = let a : (j + 1) * 2 ≡ j * 2 + 2 = omega arith in rw (left h, e, a)
 
-    pub seek_more : (M : List ℕ) → M ≡ L → j < n → same (get_or M (ul + j * 2) 0) k ≡ false → Seeking L ul n (pair k v) (j + 1)
+    pub seek_more : (M : List ℕ) → M ≡ R → j < n → same (get_or M (j * 2) 0) k ≡ false → Seeking R n (pair k v) (j + 1)
     seek_more M u h e =
-        let x : Pair ℕ = pair (get_or L (ul + j * 2) 0) (get_or L (ul + j * 2 + 1) 0) in
-        let R = put same (pair k v) (pairs_at L (ul + (j + 1) * 2) (n - (j + 1))) in
-        let snoc : pairs_at L ul (j + 1) ≡ pairs_at L ul j ++ (pair (get_or L (ul + j * 2) 0) (get_or L (ul + j * 2 + 1) 0) ∷ []) = ap (pairs_at L ul) (add-one j) ∙ pairs_snoc L ul j in
+        let x : Pair ℕ = pair (get_or R (j * 2) 0) (get_or R (j * 2 + 1) 0) in
+        let T = put same (pair k v) (pairs_at R ((j + 1) * 2) (n - (j + 1))) in
+        let z : 0 + j * 2 ≡ j * 2 = omega arith in
+        let snoc : pairs_at R 0 (j + 1) ≡ pairs_at R 0 j ++ (x ∷ []) = ap (pairs_at R 0) (add-one j) ∙ rw z at (pairs_snoc R 0 j) in
         record {
           turn = omega arith;
-          room = g.room;
-          rest = g.rest ∙ ap (λ (l : List (Pair ℕ)). pairs_at L ul j ++ l) (seek-step h (rw u at e)) ∙ sym (append_assoc (pairs_at L ul j) (pair (get_or L (ul + j * 2) 0) (get_or L (ul + j * 2 + 1) 0) ∷ []) R) ∙ ap (λ (l : List (Pair ℕ)). l ++ R) (sym snoc);
+          fits = g.fits;
+          rest = g.rest ∙ ap (λ (l : List (Pair ℕ)). pairs_at R 0 j ++ l) (seek-step h (rw u at e)) ∙ sym (append_assoc (pairs_at R 0 j) (x ∷ []) T) ∙ ap (λ (l : List (Pair ℕ)). l ++ T) (sym snoc);
         }
 
-    seek_hit_at : j < n → same (get_or L (ul + j * 2) 0) k ≡ true → Placed L (both-set L (ul + j * 2) k v) ul (put same (pair k v) (pairs_at L ul n)) (record { full = false; n = n })
+    pub seek_hit : (M : List ℕ) → M ≡ R → j < n → same (get_or M (j * 2) 0) k ≡ true → Placed R (both-set M (j * 2) k v) (put same (pair k v) (pairs_at R 0 n)) (Some n)
     unfolding pairs_at put
-    seek_hit_at h e =
-        record {
-          stand = λ _. pairs_set L ul k v n j h g.room.lent ∙ sym (g.rest ∙ rw (left h, e));
-          room = λ _. g.room;
-          full = λ z. absurd (let z : ◌≡◌ {A = ℕ} 0 1 = cc in omega arith);
-          kept = take-set-le ul (set L (ul + j * 2) k) (ul + j * 2 + 1) v (omega arith) ∙ take-set-le ul L (ul + j * 2) k (omega arith);
-          long = length-set (set L (ul + j * 2) k) (ul + j * 2 + 1) v ∙ length-set L (ul + j * 2) k;
-        }
+    seek_hit M u h e =
+        let z : 0 + j * 2 ≡ j * 2 = omega arith in
+        let e' : same (get_or R (j * 2) 0) k ≡ true = rw u at e in
+        rw u
+        (placed-some R (both-set R (j * 2) k v) (put same (pair k v) (pairs_at R 0 n)) n
+        ((rw z at (pairs_set R 0 k v n j h (omega (arith, g.fits)))) ∙ sym (g.rest ∙ rw (left h, e')))
+        g.fits
+        (length-set (set R (j * 2) k) (j * 2 + 1) v ∙ length-set R (j * 2) k))
 
-    pub seek_hit : (M : List ℕ) → M ≡ L → j < n → same (get_or M (ul + j * 2) 0) k ≡ true → Placed L (both-set M (ul + j * 2) k v) ul (put same (pair k v) (pairs_at L ul n)) (record { full = false; n = n })
-    seek_hit M u h e = rw u (seek_hit_at h (rw u at e))
-
-    seek_whole : n ≤ j → put same (pair k v) (pairs_at L ul n) ≡ pairs_at L ul n ++ (pair k v ∷ [])
+    seek_whole : n ≤ j → put same (pair k v) (pairs_at R 0 n) ≡ pairs_at R 0 n ++ (pair k v ∷ [])
     unfolding pairs_at put
     seek_whole h =
         let a : n - j ≡ 0 = omega arith in
         let b : j ≡ n = omega (arith, g.turn) in
         g.rest ∙ rw (a, b)
 
-    seek_full_at : n ≤ j → (Room L ul (n + 1) → ⊥) → Placed L L ul (put same (pair k v) (pairs_at L ul n)) (record { full = true; n = n })
-    seek_full_at h f =
-        let e : length (put same (pair k v) (pairs_at L ul n)) ≡ n + 1 = ap length (seek_whole h) ∙ length-append (pairs_at L ul n) (pair k v ∷ []) ∙ ap (λ (x : ℕ). x + 1) (pairs-length L ul n) in
-        record {
-          stand = λ z. absurd (let z : ◌≡◌ {A = ℕ} 0 1 = cc in omega arith);
-          room = λ z. absurd (let z : ◌≡◌ {A = ℕ} 0 1 = cc in omega arith);
-          full = λ _ r. f (rw e at r);
-          kept = refl;
-          long = refl;
-        }
+    pub seek_full : (M : List ℕ) → M ≡ R → n ≤ j → length M < n * 2 + 2 → Placed R M (put same (pair k v) (pairs_at R 0 n)) None
+    seek_full M u h f =
+        let e : length (put same (pair k v) (pairs_at R 0 n)) ≡ n + 1 = ap length (seek_whole h) ∙ length-append (pairs_at R 0 n) (pair k v ∷ []) ∙ ap (λ (x : ℕ). x + 1) (pairs-length R 0 n) in
+        placed-none R M (put same (pair k v) (pairs_at R 0 n)) (omega (arith, ap length u)) (ap length u)
 
-    seek_new_at : n ≤ j → ul + n * 2 + 2 ≤ most_links → ul + n * 2 + 2 ≤ length L → Placed L (both-set L (ul + n * 2) k v) ul (put same (pair k v) (pairs_at L ul n)) (record { full = false; n = n + 1 })
+    pub seek_new : (M : List ℕ) → M ≡ R → n ≤ j → n * 2 + 2 ≤ length M → Placed R (both-set M (n * 2) k v) (put same (pair k v) (pairs_at R 0 n)) (Some (n + 1))
     unfolding pairs_at
-    seek_new_at h a b =
+    seek_new M u h b =
+        let z : 0 + n * 2 ≡ n * 2 = omega arith in
         let m : n + 1 - (n + 1) ≡ 0 = omega arith in
-        record {
-          stand = λ _. pairs_set L ul k v (n + 1) n (omega arith) (omega arith) ∙ rw m (sym (seek_whole h));
-          room = λ _. record { limit = omega arith; lent = omega arith };
-          full = λ z. absurd (let z : ◌≡◌ {A = ℕ} 0 1 = cc in omega arith);
-          kept = take-set-le ul (set L (ul + n * 2) k) (ul + n * 2 + 1) v (omega arith) ∙ take-set-le ul L (ul + n * 2) k (omega arith);
-          long = length-set (set L (ul + n * 2) k) (ul + n * 2 + 1) v ∙ length-set L (ul + n * 2) k;
-        }
-
-    pub seek_full : (M : List ℕ) → M ≡ L → n ≤ j → (Room L ul (n + 1) → ⊥) → Placed L M ul (put same (pair k v) (pairs_at L ul n)) (record { full = true; n = n })
-    seek_full M u h f = rw u (seek_full_at h f)
-
-    pub seek_new : (M : List ℕ) → M ≡ L → n ≤ j → ul + n * 2 + 2 ≤ most_links → ul + n * 2 + 2 ≤ length M → Placed L (both-set M (ul + n * 2) k v) ul (put same (pair k v) (pairs_at L ul n)) (record { full = false; n = n + 1 })
-    seek_new M u h a b = rw u (seek_new_at h a (rw u at b))
-
-    pub seek-long : (M : List ℕ) → M ≡ L → ul + n * 2 ≤ length M
-    seek-long M u = rw u g.room.lent
-
-  room_same : (L M : List ℕ) (ul n : ℕ) → length M ≡ length L → Room L ul n → Room M ul n
-  room_same L M ul n e r = record { limit = r.limit; lent = omega (arith, r.lent) }
+        let l : n * 2 + 2 ≤ length R = rw u at b in
+        rw u
+        (placed-some R (both-set R (n * 2) k v) (put same (pair k v) (pairs_at R 0 n)) (n + 1)
+        ((rw z at (pairs_set R 0 k v (n + 1) n (omega arith) (omega arith))) ∙ rw m (sym (seek_whole h)))
+        (omega arith)
+        (length-set (set R (n * 2) k) (n * 2 + 1) v ∙ length-set R (n * 2) k))
 
   -- put_pairs after i turns
-  pub record Merging (L₀ L : List ℕ) (bound first count ul n i at m : ℕ) : Type 0 where
+  pub record Merging (L R₀ R : List ℕ) (first count n i m : ℕ) : Type 0 where
     pub turn : i ≤ count
-    pub place : at ≤ first + i * 2
-    pub low : bound ≤ ul
-    pub room : Room L₀ ul m
-    pub kept : take ul L ≡ take ul L₀
-    pub long : length L ≡ length L₀
-    pub rest : put_all same (pairs_at L₀ ul n) (pairs_at (take bound L₀) first count) ≡ put_all same (pairs_at L ul m) (pairs_at (take bound L₀) at (count - i))
+    pub fits : m * 2 ≤ length R₀
+    pub long : length R ≡ length R₀
+    pub rest : put_all same (pairs_at R₀ 0 n) (pairs_at L first count) ≡ put_all same (pairs_at R 0 m) (pairs_at L (first + i * 2) (count - i))
 
-  pub merging_none : (L : List ℕ) (bound first count ul n : ℕ) → Reads L ul n bound → Merging L L bound first count ul n 0 first n
-  merging_none L bound first count ul n r =
-      let a : count - 0 ≡ count = omega arith in
-      record { turn = omega arith; place = omega arith; low = r.low; room = r.room; kept = refl; long = refl; rest = rw a }
-
-  module _ (L₀ L : List ℕ) (bound first count ul n i at m : ℕ) (g : Merging L₀ L bound first count ul n i at m) where
-    pub merging_room : Room L ul m
-    merging_room = room_same L₀ L ul m g.long g.room
-
-    pub merging_end : count ≤ i → Placed L₀ L ul (put_all same (pairs_at L₀ ul n) (pairs_at (take bound L₀) first count)) (record { full = false; n = m })
+  module _ (L R₀ R : List ℕ) (first count n i m : ℕ) (g : Merging L R₀ R first count n i m) where
+    pub merging_end : count ≤ i → Placed R₀ R (put_all same (pairs_at R₀ 0 n) (pairs_at L first count)) (Some m)
     unfolding pairs_at put_all
     merging_end h =
         let a : count - i ≡ 0 = omega arith in
-        record {
-          stand = λ _. sym (g.rest ∙ rw a);
-          room = λ _. g.room;
-          full = λ z. absurd (let z : ◌≡◌ {A = ℕ} 0 1 = cc in omega arith);
-          kept = g.kept;
-          long = g.long;
-        }
+        placed-some R₀ R (put_all same (pairs_at R₀ 0 n) (pairs_at L first count)) m (sym (g.rest ∙ rw a)) g.fits g.long
 
-    module _ (h : i < count) (k v : ℕ) (a : k ≡ get_or (take bound L) at 0) (b : v ≡ get_or (take bound L) (at + 1) 0) (L' : List ℕ) (r : Put) (p : Placed L L' ul (put same (pair k v) (pairs_at L ul m)) r) where
-      turned : put_all same (pairs_at L₀ ul n) (pairs_at (take bound L₀) first count) ≡ put_all same (put same (pair k v) (pairs_at L ul m)) (pairs_at (take bound L₀) (at + 2) (count - (i + 1)))
-      unfolding pairs_at put_all
+    module _ (h : i < count) (k v : ℕ) (a : k ≡ pair_key L first i) (b : v ≡ pair_value L first i) (R' : List ℕ) where
+      abbrev one_more : List (Pair ℕ)
+      one_more = put same (pair k v) (pairs_at R 0 m)
+
+      abbrev left_over : List (Pair ℕ)
+      left_over = pairs_at L (first + (i + 1) * 2) (count - (i + 1))
+
+      turned : put_all same (pairs_at R₀ 0 n) (pairs_at L first count) ≡ put_all same one_more left_over
+      unfolding pairs_at put_all pair_key pair_value
       turned =
           let e : count - i ≡ suc (count - (i + 1)) = omega arith in
-          let q : take bound L ≡ take bound L₀ = part_same bound ul L L₀ g.low g.kept in
-          g.rest ∙ rw (e, a, b, q)
+          let f : first + (i + 1) * 2 ≡ first + i * 2 + 2 = omega arith in
+          g.rest ∙ rw (e, a, b, f)
 
-      pub merging_more : r.full ≡ false → Merging L₀ L' bound first count ul n (i + 1) (at + 2) r.n
-      merging_more f =
+      pub merging_more : (x : ℕ) → Placed R R' one_more (Some x) → Merging L R₀ R' first count n (i + 1) x
+      merging_more x p =
           record {
             turn = omega arith;
-            place = omega (arith, g.place);
-            low = g.low;
-            room = room_same L L₀ ul r.n (sym g.long) (p.room f);
-            kept = p.kept ∙ g.kept;
+            fits = omega (arith, p.room x refl, g.long);
             long = p.long ∙ g.long;
-            rest = turned ∙ ap (λ (l : List (Pair ℕ)). put_all same l (pairs_at (take bound L₀) (at + 2) (count - (i + 1)))) (sym (p.stand f));
+            rest = turned ∙ ap (λ (l : List (Pair ℕ)). put_all same l left_over) (sym (p.stand x refl));
           }
 
-      pub merging_full : r.full ≡ true → (x : ℕ) → Placed L₀ L' ul (put_all same (pairs_at L₀ ul n) (pairs_at (take bound L₀) first count)) (record { full = true; n = x })
-      merging_full f x =
-          record {
-            stand = λ z. absurd (let z : ◌≡◌ {A = ℕ} 0 1 = cc in omega arith);
-            room = λ z. absurd (let z : ◌≡◌ {A = ℕ} 0 1 = cc in omega arith);
-            full = λ _ w. p.full f (record {
-              limit = omega (arith, w.limit, ap length turned, merge_least (put same (pair k v) (pairs_at L ul m)) (pairs_at (take bound L₀) (at + 2) (count - (i + 1))));
-              lent = omega (arith, w.lent, g.long, ap length turned, merge_least (put same (pair k v) (pairs_at L ul m)) (pairs_at (take bound L₀) (at + 2) (count - (i + 1))));
-            });
-            kept = p.kept ∙ g.kept;
-            long = p.long ∙ g.long;
-          }
+      pub merging_full : Placed R R' one_more None → Placed R₀ R' (put_all same (pairs_at R₀ 0 n) (pairs_at L first count)) None
+      merging_full p =
+          placed-none R₀ R' (put_all same (pairs_at R₀ 0 n) (pairs_at L first count)) (omega (arith, p.full refl, g.long, ap length turned, merge_least one_more left_over)) (p.long ∙ g.long)
 
-  pub all_least : (list : ℕ → List (Pair ℕ)) (acc : List (Pair ℕ)) (bs : List ℕ) → length acc ≤ length (merge_all same list acc bs)
+  all_least : (list : ℕ → List (Pair ℕ)) (acc : List (Pair ℕ)) (bs : List ℕ) → length acc ≤ length (merge_all same list acc bs)
   unfolding merge_all
   all_least list acc [] = omega arith
   all_least list acc (b ∷ bs) = omega (arith, merge_least acc (list b), all_least list (put_all same acc (list b)) bs)
 
   -- merge_all after j turns
-  pub record Gathering (S X L₀ L : List ℕ) (bound k sp count ul j m : ℕ) : Type 0 where
-    pub turn : j ≤ count
-    pub low : bound ≤ ul
-    pub small : k ≤ 14
-    pub room : Room L₀ ul m
-    pub kept : take ul L ≡ take ul L₀
-    pub long : length L ≡ length L₀
-    pub rest : merge_all same (record_pairs S (take bound L₀) k) [] (span X sp 1 count) ≡ merge_all same (record_pairs S (take bound L₀) k) (pairs_at L ul m) (span X (sp + j) 1 (count - j))
+  pub record Gathering (S L B R₀ R : List ℕ) (k j m : ℕ) : Type 0 where
+    pub turn : j ≤ length B
+    pub fits : m * 2 ≤ length R₀
+    pub long : length R ≡ length R₀
+    pub rest : merge_all same (record_pairs S L k) [] B ≡ merge_all same (record_pairs S L k) (pairs_at R 0 m) (drop j B)
 
-  pub gathering_none : (S X L : List ℕ) (bound k sp count ul : ℕ) → Gathers L ul bound k → Gathering S X L L bound k sp count ul 0 0
+  pub gathering_none : (S L B R : List ℕ) (k : ℕ) → Gathering S L B R R k 0 0
   unfolding pairs_at
-  gathering_none S X L bound k sp count ul r =
-      let a : count - 0 ≡ count = omega arith in
-      let b : sp + 0 ≡ sp = omega arith in
-      record { turn = omega arith; low = r.reads.low; small = r.small; room = r.reads.room; kept = refl; long = refl; rest = rw (a, b) }
+  gathering_none S L B R k = record { turn = omega arith; fits = omega arith; long = refl; rest = refl }
 
-  module _ (S X L₀ L : List ℕ) (bound k sp count ul j m : ℕ) (g : Gathering S X L₀ L bound k sp count ul j m) where
-    pub gathering_reads : Reads L ul m bound
-    gathering_reads = record { room = room_same L₀ L ul m g.long g.room; low = g.low }
+  module _ (S L B R₀ R : List ℕ) (k j m : ℕ) (g : Gathering S L B R₀ R k j m) where
+    abbrev whole : List (Pair ℕ)
+    whole = merge_all same (record_pairs S L k) [] B
 
-    pub gathering_end : count ≤ j → Placed L₀ L ul (merge_all same (record_pairs S (take bound L₀) k) [] (span X sp 1 count)) (record { full = false; n = m })
-    unfolding span merge_all
+    pub gathering_end : length B ≤ j → Placed R₀ R whole (Some m)
+    unfolding merge_all
     gathering_end h =
-        let a : count - j ≡ 0 = omega arith in
-        record {
-          stand = λ _. sym (g.rest ∙ rw a);
-          room = λ _. g.room;
-          full = λ z. absurd (let z : ◌≡◌ {A = ℕ} 0 1 = cc in omega arith);
-          kept = g.kept;
-          long = g.long;
-        }
+        let a : drop j B ≡ [] = drop_of_length-le B {i = j} h in
+        placed-some R₀ R whole m (sym (g.rest ∙ rw a)) g.fits g.long
 
-    module _ (h : j < count) (b first n : ℕ) (e : b ≡ get_or (take (length X) X) (sp + j) 0) (ef : first ≡ schema_word S b k) (en : n ≡ schema_word S b (k + 1)) (L' : List ℕ) (r : Put) (p : Placed L L' ul (put_all same (pairs_at L ul m) (pairs_at (take bound L) first n)) r) where
+    module _ (h : j < length B) (first n : ℕ) (ef : first ≡ schema_word S (get_or B j 0) k) (en : n ≡ schema_word S (get_or B j 0) (k + 1)) (R' : List ℕ) where
       abbrev wider : List (Pair ℕ)
-      wider = put_all same (pairs_at L ul m) (pairs_at (take bound L) first n)
+      wider = put_all same (pairs_at R 0 m) (pairs_at L first n)
 
-      turned_all : merge_all same (record_pairs S (take bound L₀) k) [] (span X sp 1 count) ≡ merge_all same (record_pairs S (take bound L₀) k) wider (span X (sp + (j + 1)) 1 (count - (j + 1)))
-      unfolding span merge_all record_pairs
+      turned_all : whole ≡ merge_all same (record_pairs S L k) wider (drop (j + 1) B)
+      unfolding merge_all record_pairs
       turned_all =
-          let a : count - j ≡ suc (count - (j + 1)) = omega arith in
-          let d : sp + (j + 1) ≡ sp + j + 1 = omega arith in
-          let q : take bound L ≡ take bound L₀ = part_same bound ul L L₀ g.low g.kept in
-          let x : b ≡ get_or X (sp + j) 0 = e ∙ ap (λ (l : List ℕ). get_or l (sp + j) 0) (take-length X) in
-          g.rest ∙ rw (a, ← x, ef, en, q, d)
+          let a : drop j B ≡ get_or B j 0 ∷ drop (suc j) B = drop-cons B j 0 h in
+          let d : suc j ≡ j + 1 = omega arith in
+          g.rest ∙ rw (a, ef, en, d)
 
-      pub gathering_more : r.full ≡ false → Gathering S X L₀ L' bound k sp count ul (j + 1) r.n
-      gathering_more f =
+      pub gathering_more : (x : ℕ) → Placed R R' wider (Some x) → Gathering S L B R₀ R' k (j + 1) x
+      gathering_more x p =
           record {
             turn = omega arith;
-            low = g.low;
-            small = g.small;
-            room = room_same L L₀ ul r.n (sym g.long) (p.room f);
-            kept = p.kept ∙ g.kept;
+            fits = omega (arith, p.room x refl, g.long);
             long = p.long ∙ g.long;
-            rest = turned_all ∙ ap (λ (l : List (Pair ℕ)). merge_all same (record_pairs S (take bound L₀) k) l (span X (sp + (j + 1)) 1 (count - (j + 1)))) (sym (p.stand f));
+            rest = turned_all ∙ ap (λ (l : List (Pair ℕ)). merge_all same (record_pairs S L k) l (drop (j + 1) B)) (sym (p.stand x refl));
           }
 
-      pub gathering_full : r.full ≡ true → (x : ℕ) → Placed L₀ L' ul (merge_all same (record_pairs S (take bound L₀) k) [] (span X sp 1 count)) (record { full = true; n = x })
-      gathering_full f x =
-          let w = all_least (record_pairs S (take bound L₀) k) wider (span X (sp + (j + 1)) 1 (count - (j + 1))) in
-          record {
-            stand = λ z. absurd (let z : ◌≡◌ {A = ℕ} 0 1 = cc in omega arith);
-            room = λ z. absurd (let z : ◌≡◌ {A = ℕ} 0 1 = cc in omega arith);
-            full = λ _ q. p.full f (record {
-              limit = omega (arith, q.limit, ap length turned_all, w);
-              lent = omega (arith, q.lent, g.long, ap length turned_all, w);
-            });
-            kept = p.kept ∙ g.kept;
-            long = p.long ∙ g.long;
-          }
+      pub gathering_full : Placed R R' wider None → Placed R₀ R' whole None
+      gathering_full p =
+          placed-none R₀ R' whole (omega (arith, p.full refl, g.long, ap length turned_all, all_least (record_pairs S L k) wider (drop (j + 1) B))) (p.long ∙ g.long)
 
   -- merge_pairs
-  module _ (L₀ L : List ℕ) (ul own first n : ℕ) (acc : List (Pair ℕ)) (p : Put) (a : Placed L₀ L ul acc p) where
-    pub joining_full : p.full ≡ true → (x : ℕ) → Placed L₀ L ul (put_all same acc (pairs_at (take own L₀) first n)) (record { full = true; n = x })
-    joining_full f x =
-        let w = merge_least acc (pairs_at (take own L₀) first n) in
-        record {
-          stand = λ z. absurd (let z : ◌≡◌ {A = ℕ} 0 1 = cc in omega arith);
-          room = λ z. absurd (let z : ◌≡◌ {A = ℕ} 0 1 = cc in omega arith);
-          full = λ _ q. a.full f (record { limit = omega (arith, q.limit, w); lent = omega (arith, q.lent, w) });
-          kept = a.kept;
-          long = a.long;
-        }
+  module _ (L R₀ R : List ℕ) (first n : ℕ) (acc : List (Pair ℕ)) where
+    pub joining_full : Placed R₀ R acc None → Placed R₀ R (put_all same acc (pairs_at L first n)) None
+    joining_full a =
+        placed-none R₀ R (put_all same acc (pairs_at L first n)) (omega (arith, a.full refl, merge_least acc (pairs_at L first n))) a.long
 
-    pub joining_reads : p.full ≡ false → own ≤ ul → Reads L ul p.n own
-    joining_reads f h = record { room = room_same L₀ L ul p.n a.long (a.room f); low = h }
+    pub joining_fits : (x : ℕ) → Placed R₀ R acc (Some x) → x * 2 ≤ length R
+    joining_fits x a = omega (arith, a.room x refl, a.long)
 
-    pub joining_end : p.full ≡ false → own ≤ ul → (L' : List ℕ) (r : Put) → Placed L L' ul (put_all same (pairs_at L ul p.n) (pairs_at (take own L) first n)) r → Placed L₀ L' ul (put_all same acc (pairs_at (take own L₀) first n)) r
-    joining_end f h L' r b =
-        let q : take own L ≡ take own L₀ = part_same own ul L L₀ h a.kept in
-        let s : put_all same (pairs_at L ul p.n) (pairs_at (take own L) first n) ≡ put_all same acc (pairs_at (take own L₀) first n) = rw (a.stand f, q) in
+    pub joining_end : (x : ℕ) → Placed R₀ R acc (Some x) → (R' : List ℕ) (r : Option ℕ) → Placed R R' (put_all same (pairs_at R 0 x) (pairs_at L first n)) r → Placed R₀ R' (put_all same acc (pairs_at L first n)) r
+    joining_end x a R' r b =
+        let s : put_all same (pairs_at R 0 x) (pairs_at L first n) ≡ put_all same acc (pairs_at L first n) = rw (a.stand x refl) in
         record {
-          stand = λ z. b.stand z ∙ s;
-          room = λ z. room_same L L₀ ul r.n (sym a.long) (b.room z);
-          full = λ z w. b.full z (record { limit = omega (arith, w.limit, ap length s); lent = omega (arith, w.lent, ap length s, a.long) });
-          kept = b.kept ∙ a.kept;
+          stand = λ m e. b.stand m e ∙ s;
+          room = λ m e. omega (arith, b.room m e, a.long);
+          full = λ e. omega (arith, b.full e, ap length s, a.long);
           long = b.long ∙ a.long;
         }
 
@@ -346,7 +278,10 @@ unfolding flat_pairs
 flat_length [] = refl
 flat_length (p ∷ ps) = omega (arith, flat_length ps)
 
-pub placed_words : (L L' : List ℕ) (ul : ℕ) (ps : List (Pair ℕ)) (r : Put) → Placed L L' ul ps r → r.full ≡ false → (take (ul + r.n * 2) L' ≡ take ul L ++ flat_pairs ps) × (length (flat_pairs ps) ≡ r.n * 2)
-placed_words L L' ul ps r p f =
-    let e : length ps ≡ r.n = ap length (sym (p.stand f)) ∙ pairs-length L' ul r.n in
-    (flat_take L' ul r.n (omega (arith, (p.room f).lent, p.long)) ∙ rw (p.kept, p.stand f), omega (arith, flat_length ps))
+-- so that the front of the room is their words
+pub placed_words : (R R' : List ℕ) (ps : List (Pair ℕ)) (n : ℕ) → Placed R R' ps (Some n) → (take (n * 2) R' ≡ flat_pairs ps) × (length (flat_pairs ps) ≡ n * 2)
+placed_words R R' ps n p =
+    let e : length ps ≡ n = ap length (sym (p.stand n refl)) ∙ pairs-length R' 0 n in
+    let z : 0 + n * 2 ≡ n * 2 = omega arith in
+    let t : take (n * 2) R' ≡ flat_pairs (pairs_at R' 0 n) = rw z at (flat_take R' 0 n (omega (arith, p.room n refl, p.long))) in
+    (t ∙ ap flat_pairs (p.stand n refl), omega (arith, flat_length ps))

@@ -3,8 +3,8 @@ use Prim.Native.Nat.{ℕ, zero, suc, ◌+◌, ◌*◌, ◌≤◌}
 use mathlib.Core.Path.{◌≡◌, refl, sym, ap, ◌∙◌}
 use mathlib.Core.List.{List, ◌∷◌}
 use native.Mathlib.Omega.{arith}
-use lib.ListN.{length, get_or, take}
-use lib.Seq.{take-take}
+use lib.ListN.{length, get_or, take, drop}
+use lib.Seq.{take-take, drop-cons}
 use Rattle.layout.specs.Layout.{pair_key, pair_value}
 use Rattle.schema.specs.Shape.{Pair}
 use Rattle.schema.specs.Look.{slice, pairs_from}
@@ -36,3 +36,12 @@ pairs-from L first k (suc n) =
 -- all of them
 pub pairs_are : (L : List ℕ) (first n : ℕ) → pairs_from L first 0 n ≡ pairs_at L first n
 pairs_are L first n = pairs-from L first 0 n ∙ ap (λ (at : ℕ). pairs_at L at n) (omega arith)
+
+-- words that follow one another within a list are a part of it
+pub span_part : (L : List ℕ) (at n : ℕ) → at + n ≤ length L → span L at 1 n ≡ take n (drop at L)
+unfolding span
+span_part L at zero h = refl
+span_part L at (suc n) h =
+    let a : drop at L ≡ get_or L at 0 ∷ drop (suc at) L = drop-cons L at 0 (omega arith) in
+    let e : at + 1 ≡ suc at = omega arith in
+    rw (a, e) (ap (λ (l : List ℕ). get_or L at 0 ∷ l) (span_part L (suc at) n (omega arith)))

@@ -1,175 +1,134 @@
-// Merging lists of key and value into the room after the used links.
+// Merging lists of key and value at the front of the room that is left in the links.
 #![tactic(auto)]
 
-ghost use Rattle.std.specs.Prelude.{◌≡◌, ℕ, ◌+◌, ◌*◌, ◌-◌, ◌≤◌, ◌<◌, get_or, length, set, take, []};
+ghost use Rattle.std.specs.Prelude.{◌≡◌, ◌*◌, ◌≤◌, get_or, length, take, drop, []};
 ghost use Rattle.text.specs.Text.{same_text};
 ghost use Rattle.layout.specs.Layout.{schema_word, schema_words};
 ghost use Rattle.merge.specs.Merge.{put, put_all};
-ghost use Rattle.merge.specs.Pairs.{pair, pairs_at, merge_all, record_pairs, span};
-ghost use Rattle.merge.specs.Meets.{Room, Reads, Placed, Gathers, Joins};
+ghost use Rattle.merge.specs.Pairs.{pair, pairs_at, merge_all, record_pairs};
+ghost use Rattle.merge.specs.Meets.{Placed};
 
-use layout::words::{MOST_LINKS, SCHEMA_WORDS};
+use layout::links::{pair_key, pair_value};
+use layout::schema::schema_word;
+use layout::words::SCHEMA_WORDS;
+use text::Texts;
 
-// How many pairs stand now, or no room.
-#[derive(Clone, Copy)]
-pub struct Put {
-    pub full: bool,
-    pub n: usize,
+// The first n words, or all where there are fewer.
+pub fn first_words(words: &[u32], n: usize) -> &[u32]
+    ensures { result.now ≡ take n words.now }
+{
+    words.get(..n).unwrap_or(words)
+}
+
+// The n words from `at` on, or as many of them as there are.
+pub fn words_from(words: &[u32], at: usize, n: usize) -> &[u32]
+    ensures { result.now ≡ take n (drop at words.now) }
+{
+    first_words(words.get(at..).unwrap_or(&words[..0]), n)
 }
 
 // The word at an index of the first n words, else 0.
 pub fn word(t: &[u32], n: usize, i: usize) -> u32
     ensures { result ≡ get_or (take n t.now) i 0 }
 {
-    if i < n {
-        if i < t.len() {
-            return t[i];
-        }
-    }
-    0
-}
-
-// Puts a pair among the n pairs after ul.
-pub fn put_pair(
-    pool: &[u8],
-    texts: &[u32],
-    links: &mut [u32],
-    ul: usize,
-    n: usize,
-    key: u32,
-    val: u32,
-) -> Put
-    requires { Room links.old ul n }
-    ensures { Placed links.old links.new ul (put (same_text pool.now texts.now) (pair key val) (pairs_at links.old ul n)) result }
-{
-    let mut j: usize = 0;
-    while j < n {
-        let at = ul + j * 2;
-        if text::same_text(pool, texts, links[at], key) {
-            links[at] = key;
-            links[at + 1] = val;
-            return Put { full: false, n };
-        }
-        j += 1;
-    }
-    let end = ul + n * 2;
-    if MOST_LINKS < end + 2 {
-        return Put { full: true, n };
-    }
-    if links.len() < end + 2 {
-        return Put { full: true, n };
-    }
-    links[end] = key;
-    links[end + 1] = val;
-    Put {
-        full: false,
-        n: n + 1,
-    }
-}
-
-// Puts the count pairs that stand at first, below bound, among the n pairs after ul.
-pub fn put_pairs(
-    pool: &[u8],
-    texts: &[u32],
-    links: &mut [u32],
-    bound: usize,
-    first: u32,
-    count: u32,
-    ul: usize,
-    n: usize,
-) -> Put
-    requires { Reads links.old ul n bound }
-    ensures { Placed links.old links.new ul (put_all (same_text pool.now texts.now) (pairs_at links.old ul n) (pairs_at (take bound links.old) first count)) result }
-{
-    let mut i: usize = 0;
-    let mut m = n;
-    let c = count as usize;
-    let mut at = first as usize;
-    while i < c {
-        let key = word(links, bound, at);
-        let val = word(links, bound, at + 1);
-        let p = put_pair(pool, texts, links, ul, m, key, val);
-        if p.full {
-            return Put { full: true, n };
-        }
-        m = p.n;
-        at += 2;
-        i += 1;
-    }
-    Put { full: false, n: m }
+    text::word(first_words(t, n), i)
 }
 
 // Word k of the schema s, of which there are us.
 pub fn field(schemas: &[u32], us: u32, s: u32, k: u32) -> u32
     ensures { result ≡ schema_word (take (us * schema_words) schemas.now) s k }
 {
-    word(
-        schemas,
-        (us as usize) * SCHEMA_WORDS,
-        (s as usize) * SCHEMA_WORDS + (k as usize),
-    )
+    schema_word(first_words(schemas, (us as usize) * SCHEMA_WORDS), s, k)
 }
 
-// Merges the lists of the count records that the stack names from sp on.
-pub fn merge_all(
-    pool: &[u8],
-    texts: &[u32],
-    schemas: &[u32],
-    links: &mut [u32],
-    stack: &[u32],
-    us: u32,
-    bound: usize,
-    k: u32,
-    sp: u32,
-    count: u32,
-    ul: usize,
-) -> Put
-    requires { Gathers links.old ul bound k }
-    ensures { Placed links.old links.new ul (merge_all (same_text pool.now texts.now) (record_pairs (take (us * schema_words) schemas.now) (take bound links.old) k) [] (span stack.now sp 1 count)) result }
+// Puts a pair among the n pairs at the front of the room: how many stand there now, unless the room is too short. The room is not cut to its n
+// pairs: the rest of it is written next.
+pub fn put_pair(texts: &Texts, room: &mut [u32], n: usize, key: u32, value: u32) -> Option<usize>
+    requires { n * 2 ≤ length room.old }
+    ensures { let same = same_text texts.now.pool.now texts.now.records.now in
+        Placed room.old room.new (put same (pair key value) (pairs_at room.old 0 n)) result }
 {
-    let c = count as usize;
-    let mut j: usize = 0;
-    let mut m: usize = 0;
-    while j < c {
-        let b = word(stack, stack.len(), (sp as usize) + j);
-        let first = field(schemas, us, b, k);
-        let n = field(schemas, us, b, k + 1);
-        let p = put_pairs(pool, texts, links, bound, first, n, ul, m);
-        if p.full {
-            return Put { full: true, n: 0 };
+    for k in 0..n {
+        let at = k * 2;
+        if texts.same(room[at], key) {
+            room[at] = key;
+            room[at + 1] = value;
+            return Some(n);
         }
-        m = p.n;
-        j += 1;
     }
-    Put { full: false, n: m }
+    let end = n * 2;
+    if room.len() < end + 2 {
+        return None;
+    }
+    room[end] = key;
+    room[end + 1] = value;
+    Some(n + 1)
 }
 
-// The same, and then the derived record's own list.
-pub fn merge_pairs(
-    pool: &[u8],
-    texts: &[u32],
-    schemas: &[u32],
-    links: &mut [u32],
-    stack: &[u32],
-    us: u32,
-    bound: usize,
-    k: u32,
-    sp: u32,
-    count: u32,
-    own: usize,
+// Puts the count pairs that stand at first in the links among the n pairs at the front of the room.
+pub fn put_pairs(
+    texts: &Texts,
+    links: &[u32],
     first: u32,
-    n: u32,
-    ul: usize,
-) -> Put
-    requires { Joins links.old ul bound own k }
-    ensures { Placed links.old links.new ul (put_all (same_text pool.now texts.now) (merge_all (same_text pool.now texts.now) (record_pairs (take (us * schema_words) schemas.now) (take bound links.old) k) [] (span stack.now sp 1 count)) (pairs_at (take own links.old) first n)) result }
+    count: u32,
+    room: &mut [u32],
+    n: usize,
+) -> Option<usize>
+    requires { n * 2 ≤ length room.old }
+    ensures { let same = same_text texts.now.pool.now texts.now.records.now in
+        let new = pairs_at links.now first count in
+        Placed room.old room.new (put_all same (pairs_at room.old 0 n) new) result }
 {
-    let p = merge_all(
-        pool, texts, schemas, links, stack, us, bound, k, sp, count, ul,
-    );
-    let m = p.n;
-    if p.full {
-        return Put { full: true, n: 0 };
+    let mut n = n;
+    for k in 0..count {
+        let key = pair_key(links, first, k);
+        let value = pair_value(links, first, k);
+        n = put_pair(texts, room, n, key, value)?;
     }
-    put_pairs(pool, texts, links, own, first, n, ul, m)
+    Some(n)
+}
+
+// Merges the lists at word k of these records.
+pub fn merge_all(
+    texts: &Texts,
+    schemas: &[u32],
+    links: &[u32],
+    bases: &[u32],
+    k: u32,
+    room: &mut [u32],
+) -> Option<usize>
+    requires { k ≤ 14 }
+    ensures { let same = same_text texts.now.pool.now texts.now.records.now in
+        let list = record_pairs schemas.now links.now k in
+        Placed room.old room.new (merge_all same list [] bases.now) result }
+{
+    let mut n = 0;
+    for base in bases {
+        let first = schema_word(schemas, *base, k);
+        let count = schema_word(schemas, *base, k + 1);
+        n = put_pairs(texts, links, first, count, room, n)?;
+    }
+    Some(n)
+}
+
+// The same, and then the derived record's own list, which stands at first in the links used before.
+pub fn merge_pairs(
+    texts: &Texts,
+    schemas: &[u32],
+    links: &[u32],
+    bases: &[u32],
+    k: u32,
+    own_links: &[u32],
+    first: u32,
+    count: u32,
+    room: &mut [u32],
+) -> Option<usize>
+    requires { k ≤ 14 }
+    ensures { let same = same_text texts.now.pool.now texts.now.records.now in
+        let merged = merge_all same (record_pairs schemas.now links.now k) [] bases.now in
+        let own = pairs_at own_links.now first count in
+        Placed room.old room.new (put_all same merged own) result }
+{
+    let n = merge_all(texts, schemas, links, bases, k, room)?;
+    put_pairs(texts, own_links, first, count, room, n)
 }

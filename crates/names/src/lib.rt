@@ -70,15 +70,10 @@ fn row(k: usize) -> Name
 pub fn yaml_type_name(kind: u32) -> Name
     ensures { result ≡ named (yaml_type_name kind) }
 {
+    // Kinds by number here and below: a kind is the place of its row in the table.
     match kind {
-        0 | 8 => row(0),
-        1 => row(1),
-        2 => row(2),
-        3 => row(3),
-        4 => row(4),
-        5 => row(5),
-        6 => row(6),
-        7 => row(7),
+        0..=7 => row(kind as usize),
+        8 => row(0),
         _ => row(UNKNOWN),
     }
 }

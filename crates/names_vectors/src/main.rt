@@ -3,19 +3,12 @@
 
 use names::Name;
 
-fn text(bytes: &[u8; 8], len: usize) {
-    let start = 0;
-    let s: &[u8] = bytes;
-    if len <= s.len() {
-        io::write_all(1, &s[start..len]);
-    }
-}
-
 fn line(kind: u32, n: Name) {
     io::print_decimal(1, kind as u64);
     io::write_all(1, b" \"");
-    let bytes = n.bytes;
-    text(&bytes, n.len);
+    if let Some(name) = n.bytes.get(..n.len) {
+        io::write_all(1, name);
+    }
     io::write_all(1, b"\"\n");
 }
 
@@ -29,16 +22,11 @@ fn schema(kind: u32) {
     line(kind, names::type_name(kind));
 }
 
-fn either(i: u32) {
-    if i < 10 {
-        node(i);
-    } else {
-        schema(i - 10);
-    }
-}
-
 fn main() {
-    for i in 0..23 {
-        either(i);
+    for kind in 0..10 {
+        node(kind);
+    }
+    for kind in 0..13 {
+        schema(kind);
     }
 }

@@ -1,19 +1,19 @@
 -- A path's steps by place, and what its check says of them. Assumes nothing.
-use mathlib.Core.Path.{◌≡◌, refl, ap, ◌∙◌}
+use mathlib.Core.Path.{◌≡◌, ap, ◌∙◌}
 use mathlib.Core.Bool.{true, false}
 use mathlib.Core.List.{List, [], ◌∷◌}
-use Prim.Native.Nat.{ℕ, zero, suc, ◌+◌, ◌-◌, ◌*◌, ◌%◌, ◌<◌, ◌≤◌}
+use Prim.Native.Nat.{ℕ, suc, ◌+◌, ◌-◌, ◌*◌, ◌%◌, ◌<◌, ◌≤◌}
 use native.Mathlib.Omega.{arith}
 use lib.ListN.{length, drop}
 use lib.Seq.{drop-cons}
 use lib.Dec.{eqb, ltb}
-use borrow.Author.Tests.{eq-eqb, ne_eqb, lt-ltb, le-ltb, ltb-true}
+use borrow.Author.Tests.{lt-ltb, le-ltb, ltb-true}
 use Rattle.text.specs.Choice.{both_right}
 use Rattle.text.proofs.Count.{one_more, none_left}
 use Rattle.layout.specs.Layout.{NONE}
-use Rattle.error.specs.Paths.{Step, key_step, item_step, step_of, read_path}
-use Rattle.tables.specs.declared.check.Fault.TheVariants.{Sound, Bad}
-use Rattle.navigate.specs.Path.{path_tag, path_word, step_count, steps_of, path_size, words_ok, first_bad_step, path_fault}
+use Rattle.error.specs.Paths.{Step, step_of, read_path}
+use Rattle.tables.specs.Found.{Sound, Bad}
+use Rattle.navigate.specs.Path.{path_tag, path_word, step_count, steps_of, path_size, first_bad_step, path_fault}
 
 -- the steps from step i on
 unfoldable pub steps_from : List ℕ → ℕ → List Step
@@ -47,14 +47,6 @@ module _ (path : List ℕ) where
   unfolding path_size
   size_few t = ltb-true (step_count path) NONE (both_right (eqb (length path % 2) 0) (ltb (step_count path) NONE) t)
 
-  pub size_even : length path % 2 ≡ 0 → ltb (step_count path) NONE ≡ path_size path
-  unfolding path_size
-  size_even h = rw (eq-eqb (length path % 2) 0 h)
-
-  pub size_ragged : (length path % 2 ≡ 0 → ⊥) → false ≡ path_size path
-  unfolding path_size
-  size_ragged h = rw (ne_eqb (length path % 2) 0 h)
-
   module _ (count : ℕ) where
     pub fault_size : path_size path ≡ false → Bad 9 NONE ≡ path_fault count path
     unfolding path_fault
@@ -67,20 +59,3 @@ module _ (path : List ℕ) where
     pub fault_none : path_size path ≡ true → step_count path ≤ first_bad_step count path → Sound ≡ path_fault count path
     unfolding path_fault
     fault_none t h = rw (t, le-ltb (first_bad_step count path) (step_count path) h)
-
-module _ (count tag word : ℕ) where
-  pub key_ok : tag ≡ 0 → ltb word count ≡ words_ok count tag word
-  unfolding words_ok
-  key_ok h = rw (eq-eqb tag 0 h)
-
-  pub other_ok : (tag ≡ 0 → ⊥) → eqb tag 1 ≡ words_ok count tag word
-  unfolding words_ok
-  other_ok h = rw (ne_eqb tag 0 h)
-
--- the step that two words stand for
-pub step_key : (tag word : ℕ) → tag ≡ 0 → step_of tag word ≡ key_step word
-step_key tag word h = rw h
-
-pub step-item : (tag word : ℕ) → (tag ≡ 0 → ⊥) → step_of tag word ≡ item_step word
-step-item zero word h = absurd (h refl)
-step-item (suc tag) word h = refl

@@ -9,16 +9,14 @@ use mathlib.Core.List.{List, [], ◌∷◌}
 use mathlib.Core.Logic.{⊎_elim}
 use Prim.Native.Nat.{ℕ, ◌+◌, ◌-◌, ◌<◌, ◌≤◌}
 use native.Mathlib.Omega.{arith}
-use borrow.Author.Tests.{eq-eqb, ne_eqb, lt-ltb, le-ltb}
+use borrow.Author.Tests.{eq-eqb, ne_eqb}
 use Rattle.text.specs.Choice.{le_or_lt}
-use Rattle.layout.specs.Layout.{node_kind, node_b}
 use Rattle.error.specs.Paths.{Step, step_of}
-use Rattle.lookup.specs.declared.Found.{Found}
-use Rattle.lookup.specs.declared.Found.TheVariants.{At, Nothing}
-use Rattle.lookup.specs.Lookup.{item_node, last_entry}
+use Rattle.lookup.specs.Find.{Found}
+use Rattle.std.specs.Prelude.{Some, None}
 use Rattle.navigate.specs.Path.{path_tag, path_word, step_count, steps_of}
-use Rattle.navigate.specs.Walk.{and_then, wanted_at, entry_node, item_into, key_into, step_into, navigate_over}
-use Rattle.navigate.proofs.Steps.{steps_from, steps_begin, steps_more, steps_end, step_key, step-item}
+use Rattle.navigate.specs.Walk.{and_then, wanted_at, step_into, navigate_over}
+use Rattle.navigate.proofs.Steps.{steps_from, steps_begin, steps_more, steps_end}
 
 -- at the last step the key is wanted or not, before it never
 pub wanted_last : (wanted : Bool) (left : ℕ) → left ≡ 1 → wanted ≡ wanted_at wanted left
@@ -29,48 +27,12 @@ pub wanted-before : (wanted : Bool) (left : ℕ) → (left ≡ 1 → ⊥) → fa
 unfolding wanted_at
 wanted-before wanted left h = rw (ne_eqb left 1 h)
 
-module _ (nodes links : List ℕ) (n : ℕ) {kind : ℕ} (read : kind ≡ node_kind nodes n) where
-  module _ (index : ℕ) where
-    pub item_in : {r b : ℕ} → kind ≡ 5 → b ≡ node_b nodes n → index < b → r ≡ item_node nodes links n index → At r ≡ item_into nodes links n index
-    unfolding item_into
-    item_in {b = b} k e l h = rw (← read, eq-eqb kind 5 k, ← e, lt-ltb index b l, ← h)
-
-    pub item_past : {b : ℕ} → kind ≡ 5 → b ≡ node_b nodes n → b ≤ index → Nothing ≡ item_into nodes links n index
-    unfolding item_into
-    item_past {b} k e l = rw (← read, eq-eqb kind 5 k, ← e, le-ltb index b l)
-
-    pub item-none : (kind ≡ 5 → ⊥) → Nothing ≡ item_into nodes links n index
-    unfolding item_into
-    item-none k = rw (← read, ne_eqb kind 5 k)
-
-  module _ (pool texts : List ℕ) (text : ℕ) (wanted : Bool) where
-    pub key_in : {found : Found} {r k : ℕ} → kind ≡ 6 → found ≡ last_entry pool texts nodes links n text → found ≡ At k → r ≡ entry_node nodes links n wanted k → At r ≡ key_into pool texts nodes links n text wanted
-    unfolding key_into
-    key_in k e f h = rw (← read, eq-eqb kind 6 k, ← e, f, ← h)
-
-    pub key_missing : {found : Found} → kind ≡ 6 → found ≡ last_entry pool texts nodes links n text → found ≡ Nothing → Nothing ≡ key_into pool texts nodes links n text wanted
-    unfolding key_into
-    key_missing k e f = rw (← read, eq-eqb kind 6 k, ← e, f)
-
-    pub key_none : (kind ≡ 6 → ⊥) → Nothing ≡ key_into pool texts nodes links n text wanted
-    unfolding key_into
-    key_none k = rw (← read, ne_eqb kind 6 k)
-
 module _ (pool texts nodes links : List ℕ) where
-  module _ (n tag word : ℕ) (wanted : Bool) where
-    pub step_by_key : tag ≡ 0 → key_into pool texts nodes links n word wanted ≡ step_into pool texts nodes links n (step_of tag word) wanted
-    unfolding step_into
-    step_by_key h = rw (step_key tag word h)
-
-    pub step_by_index : (tag ≡ 0 → ⊥) → item_into nodes links n word ≡ step_into pool texts nodes links n (step_of tag word) wanted
-    unfolding step_into
-    step_by_index h = rw (step-item tag word h)
-
   module _ (wanted : Bool) where
     over_last : (n : ℕ) (s : Step) (found : Found) → found ≡ step_into pool texts nodes links n s wanted → navigate_over pool texts nodes links wanted n (s ∷ []) ≡ and_then found (λ m. navigate_over pool texts nodes links wanted m [])
     unfolding navigate_over
-    over_last n s (At m) e = sym e
-    over_last n s Nothing e = sym e
+    over_last n s (Some m) e = sym e
+    over_last n s None e = sym e
 
     over_next : (n : ℕ) (s t : Step) (rest : List Step) → navigate_over pool texts nodes links wanted n (s ∷ (t ∷ rest)) ≡ and_then (step_into pool texts nodes links n s false) (λ m. navigate_over pool texts nodes links wanted m (t ∷ rest))
     unfolding navigate_over
@@ -96,17 +58,17 @@ module _ (pool texts nodes links : List ℕ) where
       unfolding rest_after
       whole = ap rest_after (e ∙ ap (step_into pool texts nodes links n (step_of (path_tag path i) (path_word path i))) (k ∙ ap (λ (c : ℕ). wanted_at wanted (c - i)) counted)) ∙ sym (over_more path n i (omega arith)) ∙ inv
 
-      pub walk_more : {m : ℕ} → found ≡ At m → navigate_over pool texts nodes links wanted m (steps_from path (i + 1)) ≡ x
+      pub walk_more : {m : ℕ} → found ≡ Some m → navigate_over pool texts nodes links wanted m (steps_from path (i + 1)) ≡ x
       unfolding rest_after
       walk_more f = sym (ap rest_after f) ∙ whole
 
-      pub walk_stop : found ≡ Nothing → Nothing ≡ x
+      pub walk_stop : found ≡ None → None ≡ x
       unfolding rest_after
       walk_stop f = sym (ap rest_after f) ∙ whole
 
     pub walk_begin : (path : List ℕ) (n : ℕ) → navigate_over pool texts nodes links wanted n (steps_from path 0) ≡ navigate_over pool texts nodes links wanted n (steps_of path)
     walk_begin path n = ap (navigate_over pool texts nodes links wanted n) (steps_begin path)
 
-    pub walk_end : {x : Found} (path : List ℕ) (n i : ℕ) → navigate_over pool texts nodes links wanted n (steps_from path i) ≡ x → step_count path ≤ i → At n ≡ x
+    pub walk_end : {x : Found} (path : List ℕ) (n i : ℕ) → navigate_over pool texts nodes links wanted n (steps_from path i) ≡ x → step_count path ≤ i → Some n ≡ x
     unfolding navigate_over
     walk_end path n i inv l = rw (steps_end path i l) at inv

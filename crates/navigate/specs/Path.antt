@@ -4,8 +4,7 @@ use Rattle.text.specs.Choice.{both, pick}
 use Rattle.layout.specs.Layout.{NONE}
 use Rattle.layout.specs.Walk.{first}
 use Rattle.error.specs.Paths.{Step, read_path}
-use Rattle.tables.specs.declared.check.Fault.{Fault}
-use Rattle.tables.specs.declared.check.Fault.TheVariants.{Sound, Bad}
+use Rattle.tables.specs.Found.{Fault, Sound, Bad}
 
 -- two words a step: its tag, and a text or an index
 abbrev pub step_words : ℕ

@@ -3,15 +3,14 @@ use Rattle.std.specs.Prelude.{ℕ, Bool, false, List, [], ◌∷◌, eqb, ltb}
 use Rattle.text.specs.Choice.{pick}
 use Rattle.layout.specs.Layout.{node_kind, node_b}
 use Rattle.error.specs.Paths.{Step, key_step, item_step}
-use Rattle.lookup.specs.declared.Found.{Found}
-use Rattle.lookup.specs.declared.Found.TheVariants.{At, Nothing}
-use Rattle.lookup.specs.Find.{found_at}
+use Rattle.lookup.specs.Find.{Found, found_at}
+use Rattle.std.specs.Prelude.{Some, None}
 use Rattle.lookup.specs.Lookup.{entry_key, entry_value, item_node, last_entry}
 
 -- go on from the node that was found
 abbrev pub and_then : Found → (ℕ → Found) → Found
-and_then (At n) go = go n
-and_then Nothing go = Nothing
+and_then (Some n) go = go n
+and_then None go = None
 
 -- the key is wanted of the last step only; `left` steps are left with this one
 unfoldable pub wanted_at : Bool → ℕ → Bool
@@ -26,8 +25,8 @@ module _ (nodes links : List ℕ) where
   unfoldable pub item_into : ℕ → ℕ → Found
   item_into n index =
       pick (eqb (node_kind nodes n) 5)
-      (pick (ltb index (node_b nodes n)) (At (item_node nodes links n index)) Nothing)
-      Nothing
+      (pick (ltb index (node_b nodes n)) (Some (item_node nodes links n index)) None)
+      None
 
 module _ (pool texts nodes links : List ℕ) where
   -- a key step takes, of an object, the last entry with that string key
@@ -35,7 +34,7 @@ module _ (pool texts nodes links : List ℕ) where
   key_into n text wanted =
       pick (eqb (node_kind nodes n) 6)
       (found_at (entry_node nodes links n wanted) (last_entry pool texts nodes links n text))
-      Nothing
+      None
 
   -- one step down from a node
   unfoldable pub step_into : ℕ → Step → Bool → Found
@@ -44,6 +43,6 @@ module _ (pool texts nodes links : List ℕ) where
 
   -- the empty path finds its start; with the key wanted, a last key step answers the key node
   unfoldable pub navigate_over : Bool → ℕ → List Step → Found
-  navigate_over wanted n [] = At n
+  navigate_over wanted n [] = Some n
   navigate_over wanted n (s ∷ []) = step_into n s wanted
   navigate_over wanted n (s ∷ (t ∷ path)) = and_then (step_into n s false) (λ m. navigate_over wanted m (t ∷ path))

@@ -5,53 +5,31 @@ pub mod path;
 pub mod walk;
 
 ghost use Rattle.std.specs.Prelude.{◌≡◌};
-ghost use Rattle.layout.specs.Layout.{tables};
-ghost use Rattle.navigate.specs.Navigate.{found_answer, navigate_of};
+ghost use Rattle.layout.specs.Lent.{tables_of};
+ghost use Rattle.navigate.specs.Navigate.{answered, navigate_of};
 
-use error::Answer;
-use layout::words;
-use lookup::Found;
+use error::{Answer, Failure};
+use layout::Tables;
 use tables::check;
-use tables::check::Fault;
 
-fn found_answer(found: Found) -> Answer
-    ensures { result ≡ found_answer found }
+// The node that is found, or why there is none.
+fn node_at(t: &Tables, node: u32, path: &[u32], key_wanted: bool) -> Result<u32, Failure>
+    ensures { answered result ≡ navigate_of (tables_of t.now) node path.now key_wanted }
 {
-    match found {
-        Found::At(n) => error::found(n),
-        Found::Nothing => error::plain(40),
+    check::check_tables(t)?;
+    path::check_path(t.texts.count(), path)?;
+    if t.node_count() <= (node as usize) {
+        return Err(Failure::WrongNumber);
     }
+    walk::follow(t, node, path, key_wanted).ok_or(Failure::NotFound)
 }
 
 // The node at a path's end, with its key node where that is wanted and the last step is a key.
-pub fn navigate(
-    pool: &[u8],
-    texts: &[u32],
-    nodes: &[u32],
-    notes: &[u32],
-    schemas: &[u32],
-    registry: &[u32],
-    patterns: &[u32],
-    links: &[u32],
-    numbers: &[u64],
-    node: u32,
-    path: &[u32],
-    key_wanted: bool,
-) -> Answer
-    ensures { result ≡ navigate_of (tables pool.now texts.now nodes.now notes.now schemas.now registry.now patterns.now links.now numbers.now) node path.now key_wanted }
+pub fn navigate(t: &Tables, node: u32, path: &[u32], key_wanted: bool) -> Answer
+    ensures { result ≡ navigate_of (tables_of t.now) node path.now key_wanted }
 {
-    let bad_tables = check::check_tables(
-        pool, texts, nodes, notes, schemas, registry, patterns, links, numbers,
-    );
-    if let Fault::Bad { table, record } = bad_tables {
-        return error::bad_table(table, record);
+    match node_at(t, node, path, key_wanted) {
+        Ok(n) => error::found(n),
+        Err(failure) => error::failed(failure),
     }
-    let bad_path = path::check_path(text::text_count(texts), path);
-    if let Fault::Bad { table, record } = bad_path {
-        return error::bad_table(table, record);
-    }
-    if (node as usize) < words::node_count(nodes) {
-        return found_answer(walk::follow(pool, texts, nodes, links, node, path, key_wanted));
-    }
-    error::plain(21)
 }

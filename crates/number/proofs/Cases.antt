@@ -1,24 +1,19 @@
 -- The test of a number schema at each kind of floats, and by their patterns. Assumes nothing.
-use Rattle.std.proofs.Common.{◌≡◌, ℕ, ◌-◌, ◌*◌, ◌/◌, ◌%◌, ◌^◌, ◌<◌, ◌≤◌, Bool, true, false, cond, T, ⊎_elim, sym, refl, ap, ◌∙◌, subst, zero-mul, mul-pos, pow_pos, eq-eqb, arith}
+use Rattle.std.proofs.Common.{◌≡◌, ℕ, ◌-◌, ◌*◌, ◌/◌, ◌%◌, ◌^◌, ◌<◌, ◌≤◌, Bool, false, cond, T, ⊎_elim, sym, refl, ap, ◌∙◌, subst, zero-mul, mul-pos, pow_pos, eq-eqb, arith}
 use native.Mathlib.Nat.{mod-eq-sub-mul-div, eq_of_mul-eq-mul_right}
 use lib.Bits.{bit_and}
-use lib.Ieee.{Float, nan, inf, fin, binary64, up, down, round, rem, lt, fits, of_bits, is_nan}
+use lib.Ieee.{Float, nan, inf, fin, binary64, up, down, round, rem, lt, fits, of_bits}
 use lib.Ieee.Bits.{of_bits-fits}
 use lib.Ieee.Exact.{HasValue}
 use lib.Ieee.Fits.{up_pos}
 use Rattle.number.specs.Check.{abs, step, not_multiple_of}
 use Rattle.number.specs.Magnitude.{significand_of, power_of, above_step}
+use Rattle.number.proofs.Passing.{absent_multiple}
 use Rattle.number.proofs.Units.{lt_or_ge}
 use Rattle.number.proofs.Remainder.{remainder_exact}
 use Rattle.number.proofs.Step.{above-is}
 use Rattle.number.proofs.Short.{dividend-left, digits-left}
 use Rattle.number.proofs.Magnitudes.{sign, value, infinite, no_number, few-digits, leading-digit, some-digit}
-
-pub only_nan : (x : Float) → is_nan x ≡ true → x ≡ nan
-unfolding is_nan
-only_nan nan e = refl
-only_nan (inf s) e = absurd (subst T (sym e) tt)
-only_nan (fin s m f) e = absurd (subst T (sym e) tt)
 
 -- ---- no remainder: a NaN or an infinity on the left, a NaN or zero on the right
 pub nan_passes : (w : Float) → false ≡ not_multiple_of nan w
@@ -28,12 +23,6 @@ nan_passes w = refl
 infinity-passes : (s : Bool) (w : Float) → false ≡ not_multiple_of (inf s) w
 unfolding not_multiple_of rem abs lt
 infinity-passes s w = refl
-
-pub nan-multiple : (v : Float) → false ≡ not_multiple_of v nan
-unfolding not_multiple_of rem abs lt
-nan-multiple nan = refl
-nan-multiple (inf s) = refl
-nan-multiple (fin s m e) = refl
 
 zero-multiple : (v w : Float) (t : Bool) → HasValue w t 0 (2 ^ 1074) → false ≡ not_multiple_of v w
 unfolding not_multiple_of rem abs lt
@@ -73,7 +62,7 @@ module _ (p q m n : ℕ) (left : m ≡ bit_and p (2 ^ 63 - 1)) (right : n ≡ bi
       (lt_or_ge 0x7ff0_0000_0000_0000 m)
 
   pub no-divisor : 0x7ff0_0000_0000_0000 < n → false ≡ not_multiple_of (of_bits binary64 p) (of_bits binary64 q)
-  no-divisor h = nan-multiple _ ∙ ap (not_multiple_of (of_bits binary64 p)) (sym (no_number q n right h))
+  no-divisor h = sym (absent_multiple _) ∙ ap (not_multiple_of (of_bits binary64 p)) (sym (no_number q n right h))
 
   pub divisor-zero : n ≡ 0 → false ≡ not_multiple_of (of_bits binary64 p) (of_bits binary64 q)
   divisor-zero h =

@@ -12,7 +12,7 @@ nan_above p h = nan_bits_above binary64 p ∙ lt-ltb 0x7ff0_0000_0000_0000 (p % 
 pub nan_not : (p : ℕ) → bit_and p 0x7fff_ffff_ffff_ffff ≤ 0x7ff0_0000_0000_0000 → nan_bits binary64 p ≡ false
 nan_not p h = nan_bits_above binary64 p ∙ le-ltb 0x7ff0_0000_0000_0000 (p % 2 ^ 63) (subst (λ (n : ℕ). n ≤ 0x7ff0_0000_0000_0000) (and_mask p 63) h)
 
-only_nan : (x : Float) → is_nan x ≡ true → x ≡ nan
+pub only_nan : (x : Float) → is_nan x ≡ true → x ≡ nan
 unfolding is_nan
 only_nan nan e = refl
 only_nan (inf s) e = absurd (subst T (sym e) tt)

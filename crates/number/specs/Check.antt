@@ -1,10 +1,10 @@
 -- The five tests of a number schema. A comparison with a NaN is false, so a NaN passes each. Assumes nothing.
-use Rattle.std.specs.Prelude.{Bool, true, false, negsuc, Float}
+use Rattle.std.specs.Prelude.{Bool, true, false, negsuc, Float, Result, Ok, Err}
 use Rattle.std.specs.Float.{nan, inf, fin, binary64}
 use Rattle.std.specs.Float.Ieee.{lt, le, rem}
 use Rattle.number.specs.declared.tests.Bounds.{Bounds}
-use Rattle.number.specs.declared.tests.NumberCheck.{NumberCheck}
-use Rattle.number.specs.declared.tests.NumberCheck.TheVariants.{Passes, OutOfRange, NotMultiple}
+use Rattle.number.specs.declared.tests.NumberFault.{NumberFault}
+use Rattle.number.specs.declared.tests.NumberFault.TheVariants.{OutOfRange, NotMultiple}
 use Rattle.number.specs.declared.tests.Range.TheVariants.{BelowMinimum, AboveMaximum, AtOrBelowExclusiveMinimum, AtOrAboveExclusiveMaximum}
 
 -- the absolute value
@@ -21,16 +21,16 @@ step = fin false 1 (negsuc 51)
 unfoldable pub not_multiple_of : Float → Float → Bool
 not_multiple_of value multiple = lt step (abs (rem binary64 value multiple))
 
--- the first answer where its test refuses, else the second
-abbrev pub refused : Bool → NumberCheck → NumberCheck → NumberCheck
-refused true answer others = answer
-refused false answer others = others
+-- the fault where its test refuses, else what the others answer
+abbrev pub refused : Bool → NumberFault → Result (Unit {0}) NumberFault → Result (Unit {0}) NumberFault
+refused true fault others = Err fault
+refused false fault others = others
 
 -- refused in order: below minimum; above maximum; at or below exclusive minimum; at or above exclusive maximum; no multiple
-unfoldable pub check_number_of : Float → Bounds → NumberCheck
+unfoldable pub check_number_of : Float → Bounds → Result (Unit {0}) NumberFault
 check_number_of v b =
     refused (lt v b.minimum) (OutOfRange (BelowMinimum v b.minimum))
     (refused (lt b.maximum v) (OutOfRange (AboveMaximum v b.maximum))
     (refused (le v b.exclusive_minimum) (OutOfRange (AtOrBelowExclusiveMinimum v b.exclusive_minimum))
     (refused (le b.exclusive_maximum v) (OutOfRange (AtOrAboveExclusiveMaximum v b.exclusive_maximum))
-    (refused (not_multiple_of v b.multiple_of) (NotMultiple v b.multiple_of) Passes))))
+    (refused (not_multiple_of v b.multiple_of) (NotMultiple v b.multiple_of) (Ok tt)))))

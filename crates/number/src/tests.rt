@@ -12,10 +12,9 @@ pub enum Range {
     AtOrAboveExclusiveMaximum(f64, f64),
 }
 
-// What the tests of a number schema answer; NotMultiple has first the value, then the multiple.
+// The test of a number schema that fails; NotMultiple has first the value, then the multiple.
 #[derive(Clone, Copy)]
-pub enum NumberCheck {
-    Passes,
+pub enum NumberFault {
     OutOfRange(Range),
     NotMultiple(f64, f64),
 }
@@ -31,29 +30,29 @@ pub struct Bounds {
 }
 
 // The first of the five tests that fails, in order.
-pub fn check_number(value: f64, bounds: Bounds) -> NumberCheck
+pub fn check_number(value: f64, bounds: Bounds) -> Result<(), NumberFault>
     ensures { result ≡ check_number_of value bounds }
 {
     if value < bounds.minimum {
-        return NumberCheck::OutOfRange(Range::BelowMinimum(value, bounds.minimum));
+        return Err(NumberFault::OutOfRange(Range::BelowMinimum(value, bounds.minimum)));
     }
     if value > bounds.maximum {
-        return NumberCheck::OutOfRange(Range::AboveMaximum(value, bounds.maximum));
+        return Err(NumberFault::OutOfRange(Range::AboveMaximum(value, bounds.maximum)));
     }
     if value <= bounds.exclusive_minimum {
-        return NumberCheck::OutOfRange(Range::AtOrBelowExclusiveMinimum(
+        return Err(NumberFault::OutOfRange(Range::AtOrBelowExclusiveMinimum(
             value,
             bounds.exclusive_minimum,
-        ));
+        )));
     }
     if value >= bounds.exclusive_maximum {
-        return NumberCheck::OutOfRange(Range::AtOrAboveExclusiveMaximum(
+        return Err(NumberFault::OutOfRange(Range::AtOrAboveExclusiveMaximum(
             value,
             bounds.exclusive_maximum,
-        ));
+        )));
     }
     if multiple::not_multiple(value, bounds.multiple_of) {
-        return NumberCheck::NotMultiple(value, bounds.multiple_of);
+        return Err(NumberFault::NotMultiple(value, bounds.multiple_of));
     }
-    NumberCheck::Passes
+    Ok(())
 }

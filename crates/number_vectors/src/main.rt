@@ -1,10 +1,10 @@
 // Vectors of rounding, of the five tests and of equality, as IEEE 754 and the rules give them: this prints what the code answers.
 #![tactic(auto)]
 
-ghost use Rattle.std.specs.Prelude.{◌<◌, length};
+ghost use Rattle.std.specs.Prelude.{◌<◌};
 
 use number::equal::{Equality, Number};
-use number::tests::{Bounds, NumberCheck, Range};
+use number::tests::{Bounds, NumberFault, Range};
 
 // The pattern of a real, by a letter; any other letter is a NaN, an absent bound.
 fn real(letter: u8) -> u64 {
@@ -79,12 +79,12 @@ fn integer(letter: u8) -> u64 {
     }
 }
 
-fn letter(rows: &[u8], i: usize) -> u8 {
-    if i < rows.len() { rows[i] } else { b'-' }
+fn letter(row: &[u8], i: usize) -> u8 {
+    row.get(i).copied().unwrap_or(b'-')
 }
 
-fn float(rows: &[u8], i: usize) -> f64 {
-    number::real::float_of(real(letter(rows, i)))
+fn float(row: &[u8], i: usize) -> f64 {
+    number::real::float_of(real(letter(row, i)))
 }
 
 // The pattern of a float that no vector has as a NaN.
@@ -117,90 +117,76 @@ fn print_range(range: Range) {
     }
 }
 
-fn print_check(check: NumberCheck) {
+fn print_check(check: Result<(), NumberFault>) {
     match check {
-        NumberCheck::Passes => {
+        Ok(()) => {
             io::write_all(1, b"passes\n");
         }
-        NumberCheck::OutOfRange(range) => print_range(range),
-        NumberCheck::NotMultiple(v, m) => print_pair(b"no multiple ", pattern(v), m),
+        Err(NumberFault::OutOfRange(range)) => print_range(range),
+        Err(NumberFault::NotMultiple(v, m)) => print_pair(b"no multiple ", pattern(v), m),
     }
 }
 
 fn print_flag(flag: bool) {
-    if flag {
-        io::write_all(1, b"1");
-    } else {
-        io::write_all(1, b"0");
-    }
+    io::write_all(1, if flag { b"1" } else { b"0" });
 }
 
-fn print_nearest(rows: &[u8], at: usize) {
-    let word = integer(letter(rows, at));
+fn print_nearest(row: &[u8]) {
+    let word = integer(letter(row, 0));
     print_pair(b"", word, number::integer::nearest_f64(word));
 }
 
 // A row is the value, minimum, maximum, exclusive minimum, exclusive maximum, multiple.
-fn print_test(rows: &[u8], at: usize)
-    requires { at < 1000 }
-{
+fn print_test(row: &[u8]) {
     let bounds = Bounds {
-        minimum: float(rows, at + 1),
-        maximum: float(rows, at + 2),
-        exclusive_minimum: float(rows, at + 3),
-        exclusive_maximum: float(rows, at + 4),
-        multiple_of: float(rows, at + 5),
+        minimum: float(row, 1),
+        maximum: float(row, 2),
+        exclusive_minimum: float(row, 3),
+        exclusive_maximum: float(row, 4),
+        multiple_of: float(row, 5),
     };
-    print_check(number::tests::check_number(float(rows, at), bounds));
+    print_check(number::tests::check_number(float(row, 0), bounds));
 }
 
-fn number_at(rows: &[u8], at: usize) -> Number
-    requires { at < 1002 }
-{
-    if letter(rows, at) == b'#' {
-        Number::Integer(integer(letter(rows, at + 1)))
+fn number_of(sort: u8, letter: u8) -> Number {
+    if sort == b'#' {
+        Number::Integer(integer(letter))
     } else {
-        Number::Real(real(letter(rows, at + 1)))
+        Number::Real(real(letter))
     }
 }
 
 // A row is two numbers, each a letter after '#' for an integer and '.' for a real; the answers are enum's, unique's, standard mode's.
-fn print_equality(rows: &[u8], at: usize)
-    requires { at < 1000 }
-{
-    let a = number_at(rows, at);
-    let b = number_at(rows, at + 2);
+fn print_equality(row: &[u8]) {
+    let a = number_of(letter(row, 0), letter(row, 1));
+    let b = number_of(letter(row, 2), letter(row, 3));
     print_flag(number::equal::equal_numbers(Equality::Enum, a, b));
     print_flag(number::equal::equal_numbers(Equality::Unique, a, b));
     print_flag(number::equal::equal_numbers(Equality::Standard, a, b));
     io::write_all(1, b"\n");
 }
 
-fn print_finite(rows: &[u8], at: usize) {
-    print_flag(number::real::is_finite(real(letter(rows, at))));
+fn print_finite(row: &[u8]) {
+    print_flag(number::real::is_finite(real(letter(row, 0))));
     io::write_all(1, b"\n");
 }
 
 // What a row is, its width says.
-fn print_row(width: usize, rows: &[u8], at: usize)
-    requires { at < 1000 }
-{
+fn print_row(width: usize, row: &[u8]) {
     match width {
-        1 => print_nearest(rows, at),
-        2 => print_finite(rows, at),
-        4 => print_equality(rows, at),
-        _ => print_test(rows, at),
+        1 => print_nearest(row),
+        2 => print_finite(row),
+        4 => print_equality(row),
+        _ => print_test(row),
     }
 }
 
 // The rows of letters, `width` to a row.
 fn print_rows(width: usize, rows: &[u8])
-    requires { (0 < width) × (width < 1000) × (length rows.now < 1000) }
+    requires { 0 < width }
 {
-    let mut at = 0;
-    while at < rows.len() {
-        print_row(width, rows, at);
-        at += width;
+    for row in rows.chunks(width) {
+        print_row(width, row);
     }
 }
 

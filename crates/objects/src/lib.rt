@@ -2,7 +2,7 @@
 #![tactic(auto)]
 
 ghost use Rattle.std.specs.Prelude.{◌≡◌};
-ghost use Rattle.text.specs.Text.{text_of};
+ghost use Rattle.layout.specs.Lent.{tables_of};
 ghost use Rattle.layout.specs.Layout.{
   properties_first,
   properties_count,
@@ -25,195 +25,130 @@ ghost use Rattle.judge.specs.Judge.{
   before_entries,
 };
 
-use error::Detail;
-use judge::Verdict;
+use error::{Detail, Reason};
+use judge::Wrong;
 use layout::words::NONE;
-use layout::{schema as fields, words};
-use lookup::Found;
-
-// Whether one of the first k entries has that string key, whose bytes are at hand.
-fn has_earlier_with(
-    pool: &[u8],
-    texts: &[u32],
-    nodes: &[u32],
-    links: &[u32],
-    n: u32,
-    text: u32,
-    bytes: &[u8],
-    k: u32,
-) -> bool
-    requires { bytes.now ≡ text_of pool.now texts.now text }
-    ensures { result ≡ has_earlier pool.now texts.now nodes.now links.now n text k }
-{
-    let mut i = 0;
-    while i < k {
-        if lookup::key_has(
-            pool,
-            texts,
-            nodes,
-            text,
-            bytes,
-            lookup::entry_key(nodes, links, n, i),
-        ) {
-            return true;
-        }
-        i += 1;
-    }
-    false
-}
+use layout::{Tables, kind, node};
 
 // Whether one of the first k entries has that string key.
-fn has_earlier(
-    pool: &[u8],
-    texts: &[u32],
-    nodes: &[u32],
-    links: &[u32],
-    n: u32,
-    text: u32,
-    k: u32,
-) -> bool
-    ensures { result ≡ has_earlier pool.now texts.now nodes.now links.now n text k }
+fn has_earlier(t: &Tables, n: u32, text: u32, k: u32) -> bool
+    ensures { let T = tables_of t.now in
+        result ≡ has_earlier T.pool T.texts T.nodes T.links n text k }
 {
-    let bytes = text::text(pool, texts, text);
-    has_earlier_with(pool, texts, nodes, links, n, text, bytes, k)
+    let bytes = t.texts.text(text);
+    (0..k).any(|i| {
+        let key = lookup::entry_key(t, n, i);
+        lookup::key_has(t, text, bytes, key)
+    })
 }
 
 // Whether the key of entry k is a string that an earlier key equals.
-fn is_duplicate(pool: &[u8], texts: &[u32], nodes: &[u32], links: &[u32], n: u32, k: u32) -> bool
-    ensures { result ≡ is_duplicate pool.now texts.now nodes.now links.now n k }
+#[tactic(auto, unfolding(judge::specs::Judge::is_duplicate))]
+fn is_duplicate(t: &Tables, n: u32, k: u32) -> bool
+    ensures { let T = tables_of t.now in result ≡ is_duplicate T.pool T.texts T.nodes T.links n k }
 {
-    let key = lookup::entry_key(nodes, links, n, k);
-    if words::node_kind(nodes, key) == 4 {
-        return has_earlier(pool, texts, nodes, links, n, words::node_a(nodes, key), k);
-    }
-    false
+    let key = lookup::entry_key(t, n, k);
+    let text = t.node_a(key);
+    t.node_kind(key) == node::STRING && has_earlier(t, n, text, k)
 }
 
 // Answer 13 at the later of two equal string keys.
-pub fn check_keys(pool: &[u8], texts: &[u32], nodes: &[u32], links: &[u32], n: u32) -> Verdict
-    ensures { result ≡ keys_verdict pool.now texts.now nodes.now links.now n }
+pub fn check_keys(t: &Tables, n: u32) -> Result<(), Wrong>
+    ensures { let T = tables_of t.now in result ≡ keys_verdict T.pool T.texts T.nodes T.links n }
 {
-    let count = words::node_b(nodes, n);
-    let mut k = 0;
-    while k < count {
-        if is_duplicate(pool, texts, nodes, links, n, k) {
-            let key = lookup::entry_key(nodes, links, n, k);
-            return Verdict::Wrong(13, key, Detail::Key(words::node_a(nodes, key)));
+    let count = t.node_b(n);
+    for k in 0..count {
+        if is_duplicate(t, n, k) {
+            let key = lookup::entry_key(t, n, k);
+            let detail = Detail::Key(t.node_a(key));
+            return Err(Wrong::Value {
+                reason: Reason::DuplicateKey,
+                node: key,
+                detail,
+            });
         }
-        k += 1;
     }
-    Verdict::Fine
+    Ok(())
 }
 
 // The type, then the keys.
-fn check_type(pool: &[u8], texts: &[u32], nodes: &[u32], links: &[u32], n: u32) -> Verdict
-    ensures { result ≡ object_verdict pool.now texts.now nodes.now links.now n }
+#[tactic(auto, using(judge::proofs::Verdicts::kind_fits, judge::proofs::Verdicts::kind_misfits), unfolding(judge::specs::Judge::object_verdict))]
+fn check_type(t: &Tables, n: u32) -> Result<(), Wrong>
+    ensures { let T = tables_of t.now in result ≡ object_verdict T.pool T.texts T.nodes T.links n }
 {
-    if words::node_kind(nodes, n) == 6 {
-        return check_keys(pool, texts, nodes, links, n);
-    }
-    judge::type_mismatch(nodes, 10, n)
+    judge::check_kind(t, node::OBJECT, kind::OBJECT, n)?;
+    check_keys(t, n)
 }
 
 // Whether an object has a string key with the bytes of that text.
-pub fn has_key(pool: &[u8], texts: &[u32], nodes: &[u32], links: &[u32], n: u32, text: u32) -> bool
-    ensures { result ≡ has_key pool.now texts.now nodes.now links.now n text }
+#[tactic(auto, unfolding(judge::specs::Judge::has_key))]
+pub fn has_key(t: &Tables, n: u32, text: u32) -> bool
+    ensures { let T = tables_of t.now in result ≡ has_key T.pool T.texts T.nodes T.links n text }
 {
-    match lookup::last_entry(pool, texts, nodes, links, n, text) {
-        Found::At(_) => true,
-        Found::Nothing => false,
-    }
+    lookup::last_entry(t, n, text).is_some()
 }
 
-fn number_or(f: Found) -> u32
+fn number_or(f: Option<u32>) -> u32
     ensures { result ≡ number_or f }
 {
-    match f {
-        Found::At(s) => s,
-        Found::Nothing => NONE,
-    }
+    f.unwrap_or(NONE)
 }
 
 // Answer 2: the text, and its property's schema or NONE.
-fn missing_property(
-    pool: &[u8],
-    texts: &[u32],
-    schemas: &[u32],
-    links: &[u32],
-    n: u32,
-    s: u32,
-    t: u32,
-) -> Verdict
-    ensures { result ≡ missing pool.now texts.now links.now (properties_first schemas.now s) (properties_count schemas.now s) n t }
+#[tactic(auto, unfolding(judge::specs::Judge::missing))]
+fn missing_property(t: &Tables, n: u32, s: u32, text: u32) -> Result<(), Wrong>
+    ensures { let T = tables_of t.now in
+        result ≡ missing T.pool T.texts T.links (properties_first T.schemas s)
+        (properties_count T.schemas s) n text }
 {
-    let first = fields::properties_first(schemas, s);
-    let count = fields::properties_count(schemas, s);
-    let property = number_or(lookup::property(pool, texts, links, first, count, t));
-    Verdict::Wrong(
-        2,
-        n,
-        Detail::Property {
-            text: t,
-            schema: property,
-        },
-    )
+    let first = t.properties_first(s);
+    let count = t.properties_count(s);
+    let schema = number_or(lookup::property(t, first, count, text));
+    let detail = Detail::Property { text, schema };
+    Err(Wrong::Value {
+        reason: Reason::MissingProperty,
+        node: n,
+        detail,
+    })
 }
 
 // Answer 2 at the first required text that is no key.
-fn check_required(
-    pool: &[u8],
-    texts: &[u32],
-    nodes: &[u32],
-    schemas: &[u32],
-    links: &[u32],
-    n: u32,
-    s: u32,
-) -> Verdict
-    ensures { result ≡ required_verdict pool.now texts.now nodes.now links.now (properties_first schemas.now s) (properties_count schemas.now s) n (slice links.now (required_first schemas.now s) (required_count schemas.now s)) }
+fn check_required(t: &Tables, n: u32, s: u32) -> Result<(), Wrong>
+    ensures { let T = tables_of t.now in
+        result ≡ required_verdict T.pool T.texts T.nodes T.links (properties_first T.schemas s)
+        (properties_count T.schemas s) n
+        (slice T.links (required_first T.schemas s) (required_count T.schemas s)) }
 {
-    let first = fields::required_first(schemas, s);
-    let count = fields::required_count(schemas, s);
-    let mut i = 0;
-    while i < count {
-        let t = text::word(links, (first as usize) + (i as usize));
-        if has_key(pool, texts, nodes, links, n, t) {
-            i += 1;
-        } else {
-            return missing_property(pool, texts, schemas, links, n, s, t);
+    let first = t.required_first(s);
+    let count = t.required_count(s);
+    for i in 0..count {
+        let text = t.link(first, i);
+        if !has_key(t, n, text) {
+            return missing_property(t, n, s, text);
         }
     }
-    Verdict::Fine
+    Ok(())
 }
 
 // Counts: all entries are counted.
-pub fn check_size(nodes: &[u32], schemas: &[u32], n: u32, s: u32) -> Verdict
-    ensures { result ≡ size_verdict nodes.now (object_minimum schemas.now s) (object_maximum schemas.now s) n }
+#[tactic(auto, unfolding(judge::specs::Judge::size_verdict))]
+pub fn check_size(t: &Tables, n: u32, s: u32) -> Result<(), Wrong>
+    ensures { let T = tables_of t.now in
+        result ≡ size_verdict T.nodes (object_minimum T.schemas s) (object_maximum T.schemas s) n }
 {
-    let count = words::node_b(nodes, n);
-    let least = fields::object_minimum(schemas, s);
-    let most = fields::object_maximum(schemas, s);
-    judge::check_count(11, n, least, most, count)
+    let count = t.node_b(n);
+    let least = t.object_minimum(s);
+    let most = t.object_maximum(s);
+    judge::check_count(Reason::PropertyCount, n, least, most, count)
 }
 
 // All that an object is asked before its entries: type, duplicate keys, required, counts.
-pub fn check_object(
-    pool: &[u8],
-    texts: &[u32],
-    nodes: &[u32],
-    schemas: &[u32],
-    links: &[u32],
-    n: u32,
-    s: u32,
-) -> Verdict
-    ensures { result ≡ before_entries pool.now texts.now nodes.now schemas.now links.now s n }
+#[tactic(auto, using(judge::proofs::Verdicts::first_fine, judge::proofs::Verdicts::first_wrong_lem), unfolding(judge::specs::Judge::before_entries))]
+pub fn check_object(t: &Tables, n: u32, s: u32) -> Result<(), Wrong>
+    ensures { let T = tables_of t.now in
+        result ≡ before_entries T.pool T.texts T.nodes T.schemas T.links s n }
 {
-    let keys = check_type(pool, texts, nodes, links, n);
-    if judge::is_fine(keys) {
-        let required = check_required(pool, texts, nodes, schemas, links, n, s);
-        if judge::is_fine(required) {
-            return check_size(nodes, schemas, n, s);
-        }
-        return required;
-    }
-    keys
+    check_type(t, n)?;
+    check_required(t, n, s)?;
+    check_size(t, n, s)
 }

@@ -9,42 +9,44 @@ use Rattle.layout.specs.Layout.{schema_word}
 use Rattle.layout.specs.Rows.{object_row}
 use Rattle.compilation.specs.State.{Source, Out, done, source_of, state_of, add_links}
 use Rattle.compilation.specs.Table.{field, span, weld}
-use Rattle.derive.specs.Meets.{Ready, Ran, Finished}
-use Rattle.put.specs.Meets.{Listed, laid_at, values_at, Laid}
+use Rattle.derive.specs.Meets.{Told, Ready, Ran, Built, Finished}
+use Rattle.put.specs.Meets.{Listed, laid_at, values_at}
 use Rattle.put.specs.Chase.{chase_in, chase_at, is_fresh, num, next, weave_at, entry_words}
 use Rattle.error.specs.declared.Used.{Used}
-use Rattle.derive.specs.declared.Made.{Made}
+use Rattle.std.specs.Prelude.{Result}
+use Rattle.error.specs.declared.Failure.{Failure}
 use Rattle.put.specs.declared.Lead.{Lead}
 use Rattle.append.proofs.Laws.{room_limit}
 use Rattle.merge.proofs.Lists.{part_same}
 use Rattle.derive.proofs.Build.{source_same, links-done, links_full, refused-built}
 use Rattle.derive.proofs.Rows.{finish_built}
 
+-- those appended with their record, whatever the notes hold
+pub record Laid (P T R : List ℕ) (b u : Used) (below s : ℕ) (S S' L L' X : List ℕ) (sp mid additional names : ℕ) (r : Told) : Type 0 where
+  pub built : (N : List ℕ) → Built (laid_at (source_of P T R b N S L) (state_of u N S L) s (values_at (source_of P T R b N S L) below s 2 3 X sp) (values_at (source_of P T R b N S L) below s 4 5 X mid) additional names) (source_of P T R b N S L) (source_of P T R b N S' L') u N S' L' X X sp r
+
 pub listed_small : (L L' : List ℕ) (ul count : ℕ) (new : List ℕ) (r : Bool) → Listed L L' ul count new r → r ≡ true → ul + count ≤ 16384
 listed_small L L' ul count new r h e = room_limit 16384 (length L) ul count (sym h.yes ∙ e)
 
 -- keys beside woven values are the words that are appended
-pub weld_entries : (f : ℕ → Lead) (L : List ℕ) (at n : ℕ) (X : List ℕ) (p : ℕ) → weld (span L at 2 n) (weave_at f (span L (at + 1) 2 n) X p) ≡ entry_words f L at n X p
+pub weld_entries : (f : ℕ → Result Lead Failure) (L : List ℕ) (at n : ℕ) (X : List ℕ) (p : ℕ) → weld (span L at 2 n) (weave_at f (span L (at + 1) 2 n) X p) ≡ entry_words f L at n X p
 unfolding weld span weave_at entry_words
 weld_entries f L at zero X p = refl
 weld_entries f L at (suc n) X p =
     let e : at + 1 + 2 ≡ at + 2 + 1 = omega arith in
     ap (λ (l : List ℕ). get_or L at 0 ∷ (num (f (get_or L (at + 1) 0)) (get_or X p 0) ∷ l)) (ap (λ (k : ℕ). weld (span L (at + 2) 2 n) (weave_at f (span L k 2 n) X (next (is_fresh (f (get_or L (at + 1) 0))) p))) e ∙ weld_entries f L (at + 2) n X (next (is_fresh (f (get_or L (at + 1) 0))) p))
 
-pub entry_length : (f : ℕ → Lead) (L : List ℕ) (at n : ℕ) (X : List ℕ) (p : ℕ) → length (entry_words f L at n X p) ≡ n * 2
+pub entry_length : (f : ℕ → Result Lead Failure) (L : List ℕ) (at n : ℕ) (X : List ℕ) (p : ℕ) → length (entry_words f L at n X p) ≡ n * 2
 unfolding entry_words
 entry_length f L at zero X p = refl
 entry_length f L at (suc n) X p = omega (arith, entry_length f L (at + 2) n X (next (is_fresh (f (get_or L (at + 1) 0))) p))
-
-pub listed_is : (L L' : List ℕ) (ul count : ℕ) (new : List ℕ) (r y : Bool) → r ≡ y → Listed L L' ul count new r → Listed L L' ul count new y
-listed_is L L' ul count new r y e h = rw e at h
 
 -- the leaf
 module _ (P T R : List ℕ) (b u : Used) (below s : ℕ) (S L X : List ℕ) (sp mid additional names first count on patterns : ℕ) (rd : Ready b u X sp) (e2 : first ≡ schema_word (take (b.schemas * 16) S) s 2) (e3 : count ≡ schema_word (take (b.schemas * 16) S) s 3) (e4 : on ≡ schema_word (take (b.schemas * 16) S) s 4) (e5 : patterns ≡ schema_word (take (b.schemas * 16) S) s 5) where
   abbrev from : List ℕ → Source
   from N = source_of P T R b N S L
 
-  abbrev lead : ℕ → Lead
+  abbrev lead : ℕ → Result Lead Failure
   lead = chase_in P T R (take (b.schemas * 16) S) b.schemas below
 
   abbrev entries : List ℕ → ℕ → ℕ → ℕ → List ℕ
@@ -68,13 +70,14 @@ module _ (P T R : List ℕ) (b u : Used) (below s : ℕ) (S L X : List ℕ) (sp 
       record {
         source = source_same P T R b u N N S S L L' rd.notes rd.schemas rd.links refl refl k refl refl l;
         stack = refl;
+        long = refl;
         notes = omega (arith, x);
         schemas = omega (arith, y);
         links = z;
         most = omega (arith, y, rd.most);
       }
 
-  abbrev full : Made
+  abbrev full : Told
   full = record { no = 33; rec = 0; fresh = false; used = u }
 
   pub lay_no_properties : (L₁ : List ℕ) → Listed L L₁ u.links (count * 2) (entries L first count sp) false → Laid P T R b u below s S S L L₁ X sp mid additional names full
@@ -124,7 +127,7 @@ module _ (P T R : List ℕ) (b u : Used) (below s : ℕ) (S L X : List ℕ) (sp 
       abbrev used₂ : Used
       used₂ = record { notes = u.notes; schemas = u.schemas; links = u.links + count * 2 + patterns * 2 }
 
-      pub lay_done : y ≡ true → (S' : List ℕ) (note required wanted least most closed naming : ℕ) → note ≡ schema_word (take (b.schemas * 16) S) s 1 → required ≡ schema_word (take (b.schemas * 16) S) s 7 → wanted ≡ schema_word (take (b.schemas * 16) S) s 8 → least ≡ schema_word (take (b.schemas * 16) S) s 9 → most ≡ schema_word (take (b.schemas * 16) S) s 10 → closed ≡ schema_word (take (b.schemas * 16) S) s 11 → naming ≡ schema_word (take (b.schemas * 16) S) s 13 → (rec : List ℕ) → rec ≡ object_row note u.links count (u.links + count * 2) patterns additional required wanted least most closed names naming → (r : Made) → Finished S S' used₂ rec r → Laid P T R b u below s S S' L L₂ X sp mid additional names r
+      pub lay_done : y ≡ true → (S' : List ℕ) (note required wanted least most closed naming : ℕ) → note ≡ schema_word (take (b.schemas * 16) S) s 1 → required ≡ schema_word (take (b.schemas * 16) S) s 7 → wanted ≡ schema_word (take (b.schemas * 16) S) s 8 → least ≡ schema_word (take (b.schemas * 16) S) s 9 → most ≡ schema_word (take (b.schemas * 16) S) s 10 → closed ≡ schema_word (take (b.schemas * 16) S) s 11 → naming ≡ schema_word (take (b.schemas * 16) S) s 13 → (rec : List ℕ) → rec ≡ object_row note u.links count (u.links + count * 2) patterns additional required wanted least most closed names naming → (r : Told) → Finished S S' used₂ rec r → Laid P T R b u below s S S' L L₂ X sp mid additional names r
       unfolding laid_at
       lay_done f S' note required wanted least most closed naming e1 e7 e8 e9 e10 e11 e13 rec x r fin =
           record {

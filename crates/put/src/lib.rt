@@ -2,22 +2,26 @@
 // words of a plain object.
 #![tactic(auto)]
 
-ghost use Rattle.std.specs.Prelude.{◌≡◌, ◌*◌, ◌≤◌, ◌<◌, take, eqb};
-ghost use Rattle.layout.specs.Layout.{NONE, schema_word, schema_words};
+ghost use Rattle.std.specs.Prelude.{◌≡◌, ◌*◌, ◌≤◌, ◌<◌, take, eqb, get_or, is_ok, length, IfErr};
+ghost use Rattle.append.specs.Append.{room};
+ghost use Rattle.layout.specs.Layout.{NONE, schema_word, schema_words, most_links};
+ghost use Rattle.error.specs.declared.Failure.TheVariants.{NoRoom};
 ghost use Rattle.merge.specs.Pairs.{span};
-ghost use Rattle.put.specs.Chase.{chase_in, is_fresh, num, next, weave_at, entry_words};
-ghost use Rattle.put.specs.Meets.{Listed, Laid, LayReady};
+ghost use Rattle.derive.specs.Meets.{Builds, SameLent};
+ghost use Rattle.put.specs.Chase.{chase_in, lead_in, is_fresh, num, next, weave_at, entry_words};
+ghost use Rattle.put.specs.Meets.{Listed, LayReady, laid_at, values_at};
 
-use derive::{Made, finish};
-use error::Used;
+use derive::{Made, Origin, Work, finish};
+use error::{Failure, Used};
+use layout::kind;
 use layout::rows::object_row;
 use layout::schema::{
     BASES, CLOSED, KIND, NAMING, NOTE, OBJECT_MAXIMUM, OBJECT_MINIMUM, PATTERN_PROPERTIES,
     PROPERTIES, REF_EAGER, REF_TEXT, REQUIRED,
 };
-use layout::words::NONE;
-use lookup::Found;
+use layout::words::{MOST_LINKS, NONE};
 use merge::{field, word};
+use text::Texts;
 
 // A list's count stands after its first place.
 pub const PROPERTY_COUNT: u32 = PROPERTIES + 1;
@@ -26,183 +30,179 @@ pub const PATTERN_COUNT: u32 = PATTERN_PROPERTIES + 1;
 
 const REQUIRED_COUNT: u32 = REQUIRED + 1;
 
-// Where a schema leads: a record that is its own answer, a refusal, or a record to build with so many levels left below it.
+// Where a schema leads: a record that is its own answer, or one to build with so many levels left below it.
 #[derive(Clone, Copy)]
 pub enum Lead {
     Leaf(u32),
-    Refuse(u32),
-    Node(u32, u32),
+    Node { schema: u32, below: u32 },
 }
 
 // Where a schema leads.
 pub fn chase(
-    pool: &[u8],
-    texts: &[u32],
+    texts: &Texts,
     registry: &[u32],
     schemas: &[u32],
     us: u32,
     level: u32,
     s: u32,
-) -> Lead
-    ensures { result ≡ chase_in pool.now texts.now registry.now (take (us * 16) schemas.now) us level s }
+) -> Result<Lead, Failure>
+    ensures { let records = take (us * schema_words) schemas.now in
+        result ≡ chase_in texts.now.pool.now texts.now.records.now registry.now records us level s }
 {
-    let mut k = level;
     let mut at = s;
-    while 0 < k {
-        k -= 1;
+    for left in (0..level).rev() {
         if us <= at {
-            return Lead::Refuse(21);
+            return Err(Failure::WrongNumber);
         }
         let kind = field(schemas, us, at, KIND);
-        if kind == 11 {
+        if kind == kind::REF {
             if field(schemas, us, at, REF_EAGER) != 1 {
-                return Lead::Leaf(at);
+                return Ok(Lead::Leaf(at));
             }
             let name = field(schemas, us, at, REF_TEXT);
-            let Found::At(t) = lookup::resolve(pool, texts, registry, name) else {
-                return Lead::Refuse(32);
+            let Some(t) = lookup::resolve(texts, registry, name) else {
+                return Err(Failure::UnknownReference);
             };
             at = t;
         } else {
-            if kind < 7 {
-                return Lead::Leaf(at);
+            if kind < kind::ANY_OF || kind > kind::OBJECT {
+                return Ok(Lead::Leaf(at));
             }
-            if 10 < kind {
-                return Lead::Leaf(at);
-            }
-            return Lead::Node(at, k);
+            return Ok(Lead::Node {
+                schema: at,
+                below: left,
+            });
         }
     }
-    Lead::Refuse(23)
+    Err(Failure::TooDeep)
 }
 
 // Whether an object is plain: it has no list of bases.
 pub fn is_plain(schemas: &[u32], us: u32, s: u32) -> bool
     ensures { result ≡ eqb (schema_word (take (us * schema_words) schemas.now) s 14) NONE }
 {
-    let bases = field(schemas, us, s, BASES);
-    bases == NONE
+    field(schemas, us, s, BASES) == NONE
 }
 
-// The number of a child: itself where it is a leaf, else what stood on the stack.
-fn number(c: Lead, x: u32) -> u32
-    ensures { result ≡ num c x }
+// The number of a child that is compiled, and the stack's top after it: a leaf's is its own, the others stand on the stack.
+fn child(
+    origin: &Origin,
+    schemas: &[u32],
+    stack: &[u32],
+    below: u32,
+    s: u32,
+    top: u32,
+) -> (u32, u32)
+    requires { top < 65536 }
+    ensures number { let lead = lead_in origin.now schemas.now below s in
+        result.0 ≡ num lead (get_or stack.now top 0) }
+    ensures top { result.1 ≡ next (is_fresh (lead_in origin.now schemas.now below s)) top }
 {
-    match c {
-        Lead::Leaf(n) => n,
-        Lead::Refuse(_) => x,
-        Lead::Node(_, _) => x,
+    let stacked = word(stack, stack.len(), top as usize);
+    match chase(
+        &origin.texts,
+        origin.registry,
+        schemas,
+        origin.base.schemas,
+        below,
+        s,
+    ) {
+        Ok(Lead::Leaf(n)) => (n, top),
+        // Two arms that say the same: the cases of an or-pattern carry no facts (docs/PROVING.md).
+        Ok(Lead::Node { .. }) => (stacked, top + 1),
+        Err(_) => (stacked, top + 1),
     }
 }
 
-// Where the stack's top is after a child.
-fn bump(c: Lead, p: u32) -> u32
-    requires { p < 65536 }
-    ensures { result ≡ next (is_fresh c) p }
+// Whether the links have room for n more words.
+fn has_room(links: &[u32], used: usize, n: usize) -> Result<(), Failure>
+    ensures fits { is_ok result ≡ room most_links (length links.now) used n }
+    ensures full { IfErr result (λ failure. failure ≡ NoRoom) }
 {
-    match c {
-        Lead::Leaf(_) => p,
-        Lead::Refuse(_) => p + 1,
-        Lead::Node(_, _) => p + 1,
+    let most = MOST_LINKS.min(links.len());
+    if used <= most && n <= most - used {
+        return Ok(());
     }
+    Err(Failure::NoRoom)
 }
 
 // Appends the numbers of children: the leaves are found again, the others stand on the stack from sp on.
 pub fn put_list(
-    pool: &[u8],
-    texts: &[u32],
-    registry: &[u32],
+    origin: &Origin,
     schemas: &[u32],
-    links: &mut [u32],
     stack: &[u32],
-    base: Used,
+    links: &mut [u32],
     below: u32,
     at: u32,
     count: u32,
     ul: u32,
     sp: u32,
-) -> bool
-    requires { (base.links ≤ ul) × (sp ≤ 4096) }
-    ensures { Listed links.old links.new ul count (weave_at (chase_in pool.now texts.now registry.now (take (base.schemas * 16) schemas.now) base.schemas below) (span (take base.links links.old) at 1 count) stack.now sp) result }
+) -> Result<(), Failure>
+    requires { (origin.now.base.links ≤ ul) × (sp ≤ 4096) }
+    ensures listed { let lead = lead_in origin.now schemas.now below in
+        let items = span (take origin.now.base.links links.old) at 1 count in
+        Listed links.old links.new ul count (weave_at lead items stack.now sp)
+        (is_ok result) }
+    ensures full { IfErr result (λ failure. failure ≡ NoRoom) }
 {
-    let us = base.schemas;
-    let lb = base.links as usize;
+    let lb = origin.base.links as usize;
     let n = count as usize;
     let u = ul as usize;
-    if 16384 < u + n {
-        return false;
-    }
-    if links.len() < u + n {
-        return false;
-    }
-    let mut i: usize = 0;
+    has_room(links, u, n)?;
     let mut p = sp;
-    while i < n {
+    for i in 0..n {
         let s = word(links, lb, (at as usize) + i);
-        let c = chase(pool, texts, registry, schemas, us, below, s);
-        let x = word(stack, stack.len(), p as usize);
-        links[u + i] = number(c, x);
-        p = bump(c, p);
-        i += 1;
+        let (x, top) = child(origin, schemas, stack, below, s, p);
+        links[u + i] = x;
+        p = top;
     }
-    true
+    Ok(())
 }
 
-// Appends the pairs of an object's list, their values as `put_list` appends numbers.
+// Appends the pairs of an object's list, their values as `put_list` appends numbers. Keys stand beside these: one generic form of
+// the two is no plainer.
 fn put_entries(
-    pool: &[u8],
-    texts: &[u32],
-    registry: &[u32],
-    schemas: &[u32],
+    origin: &Origin,
+    work: &Work,
     links: &mut [u32],
-    stack: &[u32],
-    base: Used,
     below: u32,
     at: u32,
     count: u32,
     ul: u32,
     sp: u32,
-) -> bool
-    requires { (base.links ≤ ul) × (sp ≤ 4096) }
-    ensures { Listed links.old links.new ul (count * 2) (entry_words (chase_in pool.now texts.now registry.now (take (base.schemas * 16) schemas.now) base.schemas below) (take base.links links.old) at count stack.now sp) result }
+) -> Result<(), Failure>
+    requires { (origin.now.base.links ≤ ul) × (sp ≤ 4096) }
+    ensures listed { let lead = lead_in origin.now work.now.schemas.now below in
+        let read = take origin.now.base.links links.old in
+        Listed links.old links.new ul (count * 2)
+        (entry_words lead read at count work.now.stack.now sp)
+        (is_ok result) }
+    ensures full { IfErr result (λ failure. failure ≡ NoRoom) }
 {
-    let us = base.schemas;
-    let lb = base.links as usize;
+    let lb = origin.base.links as usize;
     let n = count as usize;
     let u = ul as usize;
-    if 16384 < u + n * 2 {
-        return false;
-    }
-    if links.len() < u + n * 2 {
-        return false;
-    }
-    let mut i: usize = 0;
+    has_room(links, u, n * 2)?;
     let mut p = sp;
-    while i < n {
+    for i in 0..n {
         let from = (at as usize) + i * 2;
         let key = word(links, lb, from);
         let s = word(links, lb, from + 1);
-        let c = chase(pool, texts, registry, schemas, us, below, s);
-        let x = word(stack, stack.len(), p as usize);
-        let value = number(c, x);
+        let (x, top) = child(origin, work.schemas, work.stack, below, s, p);
         let to = u + i * 2;
         links[to] = key;
-        links[to + 1] = value;
-        p = bump(c, p);
-        i += 1;
+        links[to + 1] = x;
+        p = top;
     }
-    true
+    Ok(())
 }
 
-// Appends the links of a plain object's two lists and its record.
+// Appends the links of a plain object's two lists and its record. `used` and `sp` stand beside the work: `build` hands on counts of its own
+// at each level, so a value of both would be taken apart at each call.
 pub fn put_object(
-    pool: &[u8],
-    texts: &[u32],
-    registry: &[u32],
-    schemas: &mut [u32],
+    origin: &Origin,
+    work: &mut Work,
     links: &mut [u32],
-    stack: &[u32],
-    base: Used,
     below: u32,
     s: u32,
     used: Used,
@@ -210,52 +210,42 @@ pub fn put_object(
     mid: u32,
     additional: u32,
     names: u32,
-) -> Made
-    requires { LayReady base used stack.now sp mid }
-    ensures { Laid pool.now texts.now registry.now base used below s schemas.old schemas.new links.old links.new stack.now sp mid additional names result }
+) -> Result<Made, Failure>
+    requires { LayReady origin.now.base used work.old.stack.now sp mid }
+    ensures made { let stack = work.old.stack.now in
+        Builds origin.now work.old work.new links.old links.new used sp
+        (λ C st. laid_at C st s
+        (values_at C below s 2 3 stack sp)
+        (values_at C below s 4 5 stack mid)
+        additional names)
+        result }
+    ensures notes { work.new.notes.now ≡ work.old.notes.now }
+    ensures stack { work.new.stack.now ≡ work.old.stack.now }
+    ensures lent { SameLent work.old work.new }
 {
-    let us = base.schemas;
-    let note = field(schemas, us, s, NOTE);
-    let first = field(schemas, us, s, PROPERTIES);
-    let count = field(schemas, us, s, PROPERTY_COUNT);
-    let on = field(schemas, us, s, PATTERN_PROPERTIES);
-    let patterns = field(schemas, us, s, PATTERN_COUNT);
-    let required = field(schemas, us, s, REQUIRED);
-    let wanted = field(schemas, us, s, REQUIRED_COUNT);
-    let least = field(schemas, us, s, OBJECT_MINIMUM);
-    let most = field(schemas, us, s, OBJECT_MAXIMUM);
-    let closed = field(schemas, us, s, CLOSED);
-    let naming = field(schemas, us, s, NAMING);
+    let us = origin.base.schemas;
+    let note = work.field(us, s, NOTE);
+    let first = work.field(us, s, PROPERTIES);
+    let count = work.field(us, s, PROPERTY_COUNT);
+    let on = work.field(us, s, PATTERN_PROPERTIES);
+    let patterns = work.field(us, s, PATTERN_COUNT);
+    let required = work.field(us, s, REQUIRED);
+    let wanted = work.field(us, s, REQUIRED_COUNT);
+    let least = work.field(us, s, OBJECT_MINIMUM);
+    let most = work.field(us, s, OBJECT_MAXIMUM);
+    let closed = work.field(us, s, CLOSED);
+    let naming = work.field(us, s, NAMING);
     let ul = used.links;
-    if !put_entries(
-        pool, texts, registry, schemas, links, stack, base, below, first, count, ul, sp,
-    ) {
-        return Made {
-            no: 33,
-            rec: 0,
-            fresh: false,
-            used,
-        };
-    }
+    put_entries(origin, work, links, below, first, count, ul, sp)?;
     let after = ul + count * 2;
-    if !put_entries(
-        pool, texts, registry, schemas, links, stack, base, below, on, patterns, after, mid,
-    ) {
-        return Made {
-            no: 33,
-            rec: 0,
-            fresh: false,
-            used,
-        };
-    }
+    put_entries(origin, work, links, below, on, patterns, after, mid)?;
     let v = Used {
-        notes: used.notes,
-        schemas: used.schemas,
         links: after + patterns * 2,
+        ..used
     };
     let rec = object_row(
         note, ul, count, after, patterns, additional, required, wanted, least, most, closed, names,
         naming,
     );
-    finish(schemas, v, rec)
+    finish(work.schemas, v, rec)
 }

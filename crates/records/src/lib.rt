@@ -2,6 +2,7 @@
 #![tactic(auto)]
 
 ghost use Rattle.std.specs.Prelude.{◌≡◌};
+ghost use Rattle.layout.specs.Lent.{tables_of};
 ghost use Rattle.ascii.specs.Ascii.{ascii_of};
 ghost use Rattle.records.specs.Records.{
   text_ok,
@@ -17,9 +18,10 @@ ghost use Rattle.records.specs.Records.{
   pattern_ok,
 };
 
-use layout::words;
 use layout::words::NONE;
-use lists::{both, list_below, optional_below};
+use layout::{Tables, node};
+use lists::{list_below, optional_below};
+use text::Texts;
 
 // How many records there are to name.
 #[derive(Clone, Copy)]
@@ -32,110 +34,103 @@ pub struct Counts {
 }
 
 // Where the whole pool is known to be plain ASCII a text only has to lie in it.
-pub fn text_ok(pool: &[u8], texts: &[u32], plain: bool, i: u32) -> bool
-    requires { plain ≡ ascii_of pool.now }
-    ensures { result ≡ text_ok pool.now texts.now i }
+pub fn text_ok(texts: &Texts, plain: bool, i: u32) -> bool
+    requires { plain ≡ ascii_of texts.now.pool.now }
+    ensures { result ≡ text_ok texts.now.pool.now texts.now.records.now i }
 {
-    if text::text_fits(pool, texts, i as usize) {
-        if plain {
-            return true;
-        }
-        return text::utf8::is_utf8(text::text(pool, texts, i));
-    }
-    false
+    texts.fits(i as usize) && (plain || text::utf8::is_utf8(texts.text(i)))
 }
 
+#[tactic(auto, unfolding(crate::specs::Records::plain_node_ok))]
 fn plain_node_ok(a: u32, b: u32, c: u32) -> bool
     ensures { result ≡ plain_node_ok a b c }
 {
-    both(a == 0, both(b == 0, c == 0))
+    a == 0 && b == 0 && c == 0
 }
 
+#[tactic(auto, unfolding(crate::specs::Records::boolean_node_ok))]
 fn boolean_node_ok(a: u32, b: u32, c: u32) -> bool
     ensures { result ≡ boolean_node_ok a b c }
 {
-    both(a <= 1, both(b == 0, c == 0))
+    a <= 1 && b == 0 && c == 0
 }
 
+#[tactic(auto, unfolding(crate::specs::Records::place_node_ok))]
 fn place_node_ok(count: usize, a: u32, b: u32, c: u32) -> bool
     ensures { result ≡ place_node_ok count a b c }
 {
-    both((a as usize) < count, both(b == 0, c == 0))
+    (a as usize) < count && b == 0 && c == 0
 }
 
+#[tactic(auto, unfolding(crate::specs::Records::real_node_ok))]
 fn real_node_ok(count: usize, a: u32, b: u32, c: u32) -> bool
     ensures { result ≡ real_node_ok count a b c }
 {
-    both(
-        optional_below(a, count),
-        both(optional_below(b, count), c == 0),
-    )
+    optional_below(a, count) && optional_below(b, count) && c == 0
 }
 
-fn list_node_ok(links: &[u32], n: u32, first: u32, count: usize, c: u32) -> bool
-    ensures { result ≡ list_node_ok links.now n first count c }
+#[tactic(auto, unfolding(crate::specs::Records::list_node_ok))]
+fn list_node_ok(t: &Tables, n: u32, first: u32, count: usize, c: u32) -> bool
+    ensures { let T = tables_of t.now in result ≡ list_node_ok T.links n first count c }
 {
-    both(list_below(links, first, count, n as usize), c == 0)
+    list_below(t, first, count, n as usize) && c == 0
 }
 
-fn node_rule(z: Counts, links: &[u32], n: u32, kind: u32, a: u32, b: u32, c: u32) -> bool
-    ensures { result ≡ node_rule z links.now n kind a b c }
+#[tactic(auto, unfolding(crate::specs::Records::node_rule))]
+fn node_rule(z: Counts, t: &Tables, n: u32, kind: u32, a: u32, b: u32, c: u32) -> bool
+    ensures { let T = tables_of t.now in result ≡ node_rule z T.links n kind a b c }
 {
     match kind {
-        0 => plain_node_ok(a, b, c),
-        1 => boolean_node_ok(a, b, c),
-        2 => place_node_ok(z.numbers, a, b, c),
-        3 => real_node_ok(z.numbers, a, b, c),
-        4 => place_node_ok(z.texts, a, b, c),
-        5 => list_node_ok(links, n, a, b as usize, c),
-        6 => list_node_ok(links, n, a, (b as usize) * 2, c),
-        7 => plain_node_ok(a, b, c),
-        8 => plain_node_ok(a, b, c),
+        node::NULL | node::ALIAS | node::BAD_VALUE => plain_node_ok(a, b, c),
+        node::BOOLEAN => boolean_node_ok(a, b, c),
+        node::INTEGER => place_node_ok(z.numbers, a, b, c),
+        node::REAL => real_node_ok(z.numbers, a, b, c),
+        node::STRING => place_node_ok(z.texts, a, b, c),
+        node::ARRAY => list_node_ok(t, n, a, b as usize, c),
+        node::OBJECT => list_node_ok(t, n, a, (b as usize) * 2, c),
         _ => false,
     }
 }
 
-pub fn node_ok(z: Counts, links: &[u32], nodes: &[u32], n: u32) -> bool
-    ensures { result ≡ node_ok z links.now nodes.now n }
+#[tactic(auto, unfolding(crate::specs::Records::node_ok))]
+pub fn node_ok(z: Counts, t: &Tables, n: u32) -> bool
+    ensures { let T = tables_of t.now in result ≡ node_ok z T.links T.nodes n }
 {
     node_rule(
         z,
-        links,
+        t,
         n,
-        words::node_kind(nodes, n),
-        words::node_a(nodes, n),
-        words::node_b(nodes, n),
-        words::node_c(nodes, n),
+        t.node_kind(n),
+        t.node_a(n),
+        t.node_b(n),
+        t.node_c(n),
     )
 }
 
-pub fn note_ok(notes: &[u32], n: u32) -> bool
-    ensures { result ≡ note_ok notes.now n }
+#[tactic(auto, unfolding(crate::specs::Records::note_ok))]
+pub fn note_ok(t: &Tables, n: u32) -> bool
+    ensures { let T = tables_of t.now in result ≡ note_ok T.notes n }
 {
-    if words::note_tags(notes, n) == NONE {
-        words::note_case_detection(notes, n) == 0
+    if t.note_tags(n) == NONE {
+        t.note_case_detection(n) == 0
     } else {
-        words::note_case_detection(notes, n) <= 1
+        t.note_case_detection(n) <= 1
     }
 }
 
-pub fn entry_ok(z: Counts, registry: &[u32], i: u32) -> bool
-    ensures { result ≡ entry_ok z registry.now i }
+#[tactic(auto, unfolding(crate::specs::Records::entry_ok))]
+pub fn entry_ok(z: Counts, t: &Tables, i: u32) -> bool
+    ensures { let T = tables_of t.now in result ≡ entry_ok z T.registry i }
 {
-    both(
-        text::wide(words::entry_text(registry, i as usize)) < z.texts,
-        text::wide(words::entry_schema(registry, i as usize)) < z.schemas,
-    )
+    text::wide(t.entry_text(i as usize)) < z.texts
+        && text::wide(t.entry_schema(i as usize)) < z.schemas
 }
 
-pub fn pattern_ok(z: Counts, patterns: &[u32], i: u32) -> bool
-    ensures { result ≡ pattern_ok z patterns.now i }
+#[tactic(auto, unfolding(crate::specs::Records::pattern_ok))]
+pub fn pattern_ok(z: Counts, t: &Tables, i: u32) -> bool
+    ensures { let T = tables_of t.now in result ≡ pattern_ok z T.patterns i }
 {
-    both(
-        text::wide(words::pattern_text(patterns, i as usize)) < z.texts,
-        both(
-            text::wide(words::subject_text(patterns, i as usize)) < z.texts,
-            words::pattern_answer(patterns, i as usize) <= 2,
-        ),
-    )
+    text::wide(t.pattern_text(i as usize)) < z.texts
+        && text::wide(t.subject_text(i as usize)) < z.texts
+        && t.pattern_answer(i as usize) <= 2
 }

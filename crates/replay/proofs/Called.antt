@@ -1,7 +1,8 @@
 -- What a call is lent and what it gives, from what the reads of its words gave. Assumes nothing.
 use Rattle.std.proofs.Common.{◌≡◌, ℕ, ◌+◌, ◌-◌, ◌%◌, ◌^◌, ◌<◌, ◌≤◌, Bool, true, false, eqb, leb, ◌⊎◌, List, length, take, sym, refl, ap, ◌∙◌, inl, inr, ⊎_elim, arith, length-take-le, le-ltb, lt-ltb, eq-eqb, ne_eqb, le-leb}
 use borrow.Author.Tests.{lt-leb}
-use Rattle.text.specs.Choice.{pick_yes, pick_no, le_or_lt, both-holds, both_fails_left, both_fails_right, either_left, either_right, either_fails}
+use mir.Val.{bool_byte}
+use Rattle.text.specs.Choice.{pick, pick_yes, pick_no, le_or_lt, both-holds, both_fails_left, both_fails_right, either_left, either_right, either_fails}
 use Rattle.text.specs.Text.{part_of}
 use Rattle.layout.specs.Layout.{Tables, tables}
 use Rattle.error.specs.declared.Mode.{Mode}
@@ -51,24 +52,15 @@ module _ (input : List ℕ) (at : ℕ) (T : Tables) where
       ∙ ap (λ (x : ℕ). left_of (validate_of T (mode_of (word_behind input at 1)) x schema i k)) n
       ∙ ap (λ (x : ℕ). left_of (validate_of T (mode_of (word_behind input at 1)) (word_behind input at 2) x i k)) s
 
+-- a test as a word
+bool_word : (b : Bool) → bool_byte b ≡ pick b 1 0
+bool_word true = refl
+bool_word false = refl
+
 -- whether two nodes are equal, over the tables lent
-module _ (way : Equality) (input : List ℕ) (at : ℕ) (ends words pool numbers : List ℕ) where
-  test_same : {texts nodes links : List ℕ} {a b : ℕ} {r : Bool} → texts ≡ table_of words ends 0 → nodes ≡ table_of words ends 1 → links ≡ table_of words ends 6 → a ≡ word_behind input at 1 → b ≡ word_behind input at 2 → r ≡ equal_nodes_of way pool texts nodes links numbers a b → r ≡ equal_nodes_of way pool (table_of words ends 0) (table_of words ends 1) (table_of words ends 6) numbers (word_behind input at 1) (word_behind input at 2)
-  test_same {texts} {nodes} {links} {a} {b} t n l p q h =
-      h
-      ∙ ap (λ (x : List ℕ). equal_nodes_of way pool x nodes links numbers a b) t
-      ∙ ap (λ (x : List ℕ). equal_nodes_of way pool (table_of words ends 0) x links numbers a b) n
-      ∙ ap (λ (x : List ℕ). equal_nodes_of way pool (table_of words ends 0) (table_of words ends 1) x numbers a b) l
-      ∙ ap (λ (x : ℕ). equal_nodes_of way pool (table_of words ends 0) (table_of words ends 1) (table_of words ends 6) numbers x b) p
-      ∙ ap (equal_nodes_of way pool (table_of words ends 0) (table_of words ends 1) (table_of words ends 6) numbers (word_behind input at 1)) q
-
-  pub equal_yes : {texts nodes links : List ℕ} {a b : ℕ} {r : Bool} → texts ≡ table_of words ends 0 → nodes ≡ table_of words ends 1 → links ≡ table_of words ends 6 → a ≡ word_behind input at 1 → b ≡ word_behind input at 2 → r ≡ equal_nodes_of way pool texts nodes links numbers a b → r ≡ true → 1 ≡ equal_of way input at (tables_of ends words pool numbers)
-  unfolding equal_of tables_of
-  equal_yes t n l p q h y = sym (pick_yes 1 0 (sym (test_same t n l p q h) ∙ y))
-
-  pub equal_no : {texts nodes links : List ℕ} {a b : ℕ} {r : Bool} → texts ≡ table_of words ends 0 → nodes ≡ table_of words ends 1 → links ≡ table_of words ends 6 → a ≡ word_behind input at 1 → b ≡ word_behind input at 2 → r ≡ equal_nodes_of way pool texts nodes links numbers a b → r ≡ false → 0 ≡ equal_of way input at (tables_of ends words pool numbers)
-  unfolding equal_of tables_of
-  equal_no t n l p q h y = sym (pick_no 1 0 (sym (test_same t n l p q h) ∙ y))
+pub equal_word : (way : Equality) (input : List ℕ) (at : ℕ) (T : Tables) {a b : ℕ} {r : Bool} → a ≡ word_behind input at 1 → b ≡ word_behind input at 2 → r ≡ equal_nodes_of way T.pool T.texts T.nodes T.links T.numbers a b → bool_byte r ≡ equal_of way input at T
+unfolding equal_of
+equal_word way input at T p q h = bool_word _ ∙ rw (h, p, q)
 
 -- a mode by its number
 pub mode-none : (n : ℕ) → n ≡ 0 → Source ≡ mode_of n
@@ -151,10 +143,10 @@ left-run input at left {place} {steps} {kinds} {instancePlace} {halfway} {kindsP
     λ i. met (wrong₁ i) (behind i)
 
 -- the first words of a buffer, as many as are stored
-pub lent_words : (n : ℕ) (l : List ℕ) {w : ℕ} → n ≤ length l → n ≡ w → length (take (n - 0) l) ≡ w
-lent_words n l h e = length-take-le (n - 0) l (omega arith) ∙ (let same : n - 0 ≡ n = omega arith in same ∙ e)
+pub lent_words : (n : ℕ) (l : List ℕ) {w : ℕ} → n ≤ length l → n ≡ w → length (take n l) ≡ w
+lent_words n l h e = length-take-le n l h ∙ e
 
-pub lent_within : (n : ℕ) (l : List ℕ) → n ≤ length l → length (take (n - 0) l) ≤ length l
+pub lent_within : (n : ℕ) (l : List ℕ) → n ≤ length l → length (take n l) ≤ length l
 lent_within n l h = omega (arith, lent_words n l h refl)
 
 -- a call over buffers of as many words as are stored

@@ -10,19 +10,6 @@ use Rattle.replay.specs.declared.answer.Met.{Met}
 use Rattle.replay.specs.Calls.{group_tables, navigation_of, validation_of, equality_of}
 use Rattle.replay.specs.Run.{counted_of, failed_of, placed_of, call_of, calls_of, group_of, is_file}
 
-module _ (run : Run) where
-  pub counted_run : (met : Met) {calls wrong : ℕ} → calls ≡ (run.calls + 1) % 2 ^ 32 → wrong ≡ (run.wrong + met.wrong) % 2 ^ 32 → ◌≡◌ {A = Run} (record { calls = calls; wrong = wrong; at = met.after; end = run.end }) (counted_of run met)
-  unfolding counted_of
-  counted_run met c w = λ i. record { calls = c i; wrong = w i; at = met.after; end = run.end }
-
-  pub failed_run : {wrong : ℕ} → wrong ≡ (run.wrong + 1) % 2 ^ 32 → ◌≡◌ {A = Run} (record { calls = run.calls; wrong = wrong; at = 4294967296; end = 0 }) (failed_of run)
-  unfolding failed_of
-  failed_run w = λ i. record { calls = run.calls; wrong = w i; at = 4294967296; end = 0 }
-
-  pub placed_run : (at : ℕ) → ◌≡◌ {A = Run} (record { calls = run.calls; wrong = run.wrong; at = at; end = run.end }) (placed_of run at)
-  unfolding placed_of
-  placed_run at = refl
-
 module _ (call : ℕ) (input : List ℕ) (run : Run) (T : Tables) where
   pub call_navigates : {met : Met} {r : Run} → call ≡ 0 → met ≡ navigation_of input run.at T → r ≡ counted_of run met → r ≡ call_of call input run T
   unfolding call_of
@@ -59,24 +46,11 @@ module _ (call : ℕ) (input : List ℕ) (run : Run) (T : Tables) where
       h ∙ ap (λ (x : Run). call_of call input x T) e ∙ next i ∙ ap (calls_of call input run T) (omega arith)
 
 -- all calls of a group
-pub group-run : (call : ℕ) (input : List ℕ) (before : Run) (u : Unpacked) (i : ℕ) {group : Group} {words pool numbers : List ℕ} {count after : ℕ} {first run : Run} → unpacked group words pool numbers ≡ u → count ≡ word_behind input group.after 0 → after ≡ place_after group.after 1 → first ≡ placed_of before after → run ≡ calls_of call input first (group_tables group words pool numbers) i → i ≡ count → run ≡ group_of call input before u
+pub group-run : (call : ℕ) (input : List ℕ) (before : Run) (u : Unpacked) (i : ℕ) {group : Group} {words pool numbers : List ℕ} {count after : ℕ} {first run : Run} → unpacked group words pool numbers ≡ u → count ≡ word_behind input group.after 0 → after ≡ place_after group.after 1 → first ≡ placed_of before after → {T : Tables} → T ≡ group_tables group words pool numbers → run ≡ calls_of call input first T i → i ≡ count → run ≡ group_of call input before u
 unfolding group_of
-group-run call input before u i {group} {words} {pool} {numbers} {count} {after} {first} e n a f r q =
+group-run call input before u i {group} {words} {pool} {numbers} {count} {after} {first} e n a f t r q =
     r
+    ∙ ap (λ (T : Tables). calls_of call input first T i) t
     ∙ ap (calls_of call input first (group_tables group words pool numbers)) (q ∙ n)
     ∙ ap (λ (x : Run). calls_of call input x (group_tables group words pool numbers) (word_behind input group.after 0)) (f ∙ ap (placed_of before) a)
     ∙ ap (λ (x : Unpacked). calls_of call input (placed_of before (place_after x.group.after 1)) (group_tables x.group x.words x.pool x.numbers) (word_behind input x.group.after 0)) e
-
--- a file where both words are as they have to be
-module _ (input : List ℕ) (at : ℕ) where
-  pub file_marked : {first second : ℕ} → first ≡ word_behind input at 0 → first ≡ 1348031057 → second ≡ word_behind input at 1 → eqb second 1 ≡ is_file input at
-  unfolding is_file
-  file_marked e m s =
-      ap (λ (x : ℕ). eqb x 1) s ∙ sym (both_first (eq-eqb (word_behind input at 0) 1348031057 (sym e ∙ m)))
-    where
-      both_first : {t b : Bool} → t ≡ true → both t b ≡ b
-      both_first h = rw h
-
-  pub file_unmarked : {first : ℕ} → first ≡ word_behind input at 0 → (first ≡ 1348031057 → ⊥) → false ≡ is_file input at
-  unfolding is_file
-  file_unmarked e m = sym (both_fails_left _ (ne_eqb (word_behind input at 0) 1348031057 (λ z. m (e ∙ z))))

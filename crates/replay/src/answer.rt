@@ -130,11 +130,9 @@ pub fn compare(call: u32, input: &[u32], at: usize, flat: Flat, compiled: bool) 
 {
     let found = words(flat);
     let mut wrong: u32 = 0;
-    let mut k: u32 = 0;
-    while k < ANSWER_WORDS {
+    for k in 0..ANSWER_WORDS {
         let e = expected(input, at, k, compiled);
         wrong = judge(call, k, e, found[k as usize], wrong);
-        k += 1;
     }
     wrong
 }

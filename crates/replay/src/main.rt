@@ -9,6 +9,7 @@
 #![tactic(auto)]
 
 ghost use Rattle.std.specs.Prelude.{◌≡◌};
+ghost use Rattle.layout.specs.Lent.{tables_of};
 ghost use Rattle.stored.specs.Group.{unpacked_of};
 ghost use Rattle.replay.specs.Calls.{group_tables};
 ghost use Rattle.replay.specs.Run.{counted_of, failed_of, placed_of, ReadOn, call_of, group_of, is_file};
@@ -19,6 +20,7 @@ mod navigation;
 mod validation;
 
 use answer::Met;
+use layout::Tables;
 use stored::group::Group;
 use stored::report;
 
@@ -49,15 +51,16 @@ struct Run {
 }
 
 // A run that cannot go on: its place is past the end.
+#[tactic(auto, unfolding(crate::specs::Run::failed_of))]
 fn fails(run: Run, line: &[u8]) -> Run
     ensures { result ≡ failed_of run }
 {
     io::write_all(OUT, line);
     Run {
-        calls: run.calls,
-        wrong: std::num::wrapping_add_u32(run.wrong, 1),
+        wrong: run.wrong.wrapping_add(1),
         at: 4294967296,
         end: 0,
+        ..run
     }
 }
 
@@ -66,62 +69,64 @@ fn refilled(run: Run, chunk: &mut [u8], input: &mut [u32]) -> Run
 {
     let held = stored::input::refill(chunk, input, run.at, run.end);
     Run {
-        calls: run.calls,
-        wrong: run.wrong,
         at: held.at,
         end: held.end,
+        ..run
     }
 }
 
+#[tactic(auto, unfolding(crate::specs::Run::placed_of))]
 fn placed(run: Run, at: usize) -> Run
     ensures { result ≡ placed_of run at }
 {
-    Run {
-        calls: run.calls,
-        wrong: run.wrong,
-        at,
-        end: run.end,
-    }
+    Run { at, ..run }
 }
 
 // A run behind one more call.
+#[tactic(auto, unfolding(crate::specs::Run::counted_of))]
 fn counted(run: Run, met: Met) -> Run
     ensures { result ≡ counted_of run met }
 {
     Run {
-        calls: std::num::wrapping_add_u32(run.calls, 1),
-        wrong: std::num::wrapping_add_u32(run.wrong, met.wrong),
+        calls: run.calls.wrapping_add(1),
+        wrong: run.wrong.wrapping_add(met.wrong),
         at: met.after,
-        end: run.end,
+        ..run
     }
 }
 
-// One call: by its number in the file's header.
-fn run_call(
-    call: u32,
-    input: &[u32],
-    run: Run,
+// The tables of a group, as one value.
+fn group_tables<'a>(
     group: Group,
-    words: &[u32],
-    pool: &[u8],
-    numbers: &[u64],
-) -> Run
-    ensures { result ≡ call_of call input.now run (group_tables group words.now pool.now numbers.now) }
+    words: &'a [u32],
+    pool: &'a [u8],
+    numbers: &'a [u64],
+) -> Tables<'a>
+    ensures { tables_of result ≡ group_tables group words.now pool.now numbers.now }
 {
-    let calls = std::num::wrapping_add_u32(run.calls, 1);
+    let ends = group.ends;
+    Tables::new(
+        text::part(pool, 0, group.bytes),
+        stored::part(words, ends[0], ends[1]),
+        stored::part(words, ends[1], ends[2]),
+        stored::part(words, ends[2], ends[3]),
+        stored::part(words, ends[3], ends[4]),
+        stored::part(words, ends[4], ends[5]),
+        stored::part(words, ends[5], ends[6]),
+        stored::part(words, ends[6], ends[7]),
+        stored::part(numbers, 0, group.numbers),
+    )
+}
+
+// One call: by its number in the file's header.
+fn run_call(call: u32, input: &[u32], run: Run, t: &Tables) -> Run
+    ensures { result ≡ call_of call input.now run (tables_of t.now) }
+{
+    let calls = run.calls.wrapping_add(1);
     match call {
-        NAVIGATE => counted(
-            run,
-            navigation::run(calls, input, run.at, group, words, pool, numbers),
-        ),
-        VALIDATE => counted(
-            run,
-            validation::run(calls, input, run.at, group, words, pool, numbers),
-        ),
-        EQUAL => counted(
-            run,
-            equality::run(calls, input, run.at, group, words, pool, numbers),
-        ),
+        NAVIGATE => counted(run, navigation::run(calls, input, run.at, t)),
+        VALIDATE => counted(run, validation::run(calls, input, run.at, t)),
+        EQUAL => counted(run, equality::run(calls, input, run.at, t)),
         _ => fails(run, b"a call of no known number\n"),
     }
 }
@@ -134,15 +139,15 @@ fn run_group(
     pool: &mut [u8],
     numbers: &mut [u64],
 ) -> Run
-    ensures { result ≡ group_of call input.now before (unpacked_of input.now before.at words.old pool.old numbers.old) }
+    ensures { result ≡ group_of call input.now before
+        (unpacked_of input.now before.at words.old pool.old numbers.old) }
 {
     let group = stored::group::unpack(input, before.at, words, pool, numbers);
     let count = stored::word(input, group.after, 0);
     let mut run = placed(before, stored::after(group.after, 1));
-    let mut i: u32 = 0;
-    while i < count {
-        run = run_call(call, input, run, group, words, pool, numbers);
-        i += 1;
+    let t = group_tables(group, words, pool, numbers);
+    for _ in 0..count {
+        run = run_call(call, input, run, &t);
     }
     run
 }
@@ -158,8 +163,7 @@ fn run_file(
     let call = stored::word(input, before.at, 2);
     let count = stored::word(input, before.at, 3);
     let mut run = placed(before, stored::after(before.at, HEADER_WORDS));
-    let mut i: u32 = 0;
-    while i < count {
+    for _ in 0..count {
         run = refilled(run, chunk, input);
         run = run_group(
             call,
@@ -169,18 +173,15 @@ fn run_file(
             pool,
             numbers,
         );
-        i += 1;
     }
     refilled(run, chunk, input)
 }
 
+#[tactic(auto, unfolding(crate::specs::Run::is_file))]
 fn is_file(input: &[u32], at: usize) -> bool
     ensures { result ≡ is_file input.now at }
 {
-    if stored::word(input, at, 0) == MARK {
-        return stored::word(input, at, 1) == FORMAT;
-    }
-    false
+    stored::word(input, at, 0) == MARK && stored::word(input, at, 1) == FORMAT
 }
 
 fn run_next(
@@ -211,10 +212,11 @@ fn run_all(
         end: 0,
     };
     let mut run = refilled(nothing, chunk, input);
-    let mut files: u32 = 0;
-    while files < MOST_FILES && run.at < run.end {
+    for _ in 0..MOST_FILES {
+        if run.at >= run.end {
+            break;
+        }
         run = run_next(run, chunk, input, words, pool, numbers);
-        files += 1;
     }
     report::print(run.calls, b" calls, ");
     report::print(run.wrong, b" wrong\n");

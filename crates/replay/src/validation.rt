@@ -1,9 +1,8 @@
 // A stored validation: whether the original was asked, the mode, node and schema, the words of both path buffers, the answer, and both
 // paths.
 ghost use Rattle.std.specs.Prelude.{◌≡◌, length};
+ghost use Rattle.layout.specs.Lent.{tables_of};
 ghost use Rattle.replay.specs.Calls.{
-  tables_of,
-  group_tables,
   validated_of,
   path_word,
   path_wrong,
@@ -15,7 +14,7 @@ ghost use Rattle.replay.specs.Calls.{
 use crate::answer;
 use crate::answer::Met;
 use checker::flat::Flat;
-use stored::group::Group;
+use layout::Tables;
 
 // Where the words of both buffers stand.
 const INSTANCE_WORDS: u32 = 4;
@@ -39,40 +38,16 @@ const GARBAGE: u32 = 2863311530;
 
 const MOST_WORDS: usize = 512;
 
-fn validate(
-    input: &[u32],
-    at: usize,
-    ends: [usize; 8],
-    words: &[u32],
-    pool: &[u8],
-    numbers: &[u64],
-    instance: &mut [u32],
-    steps: &mut [u32],
-) -> Flat
-    ensures { record { answer = result; instance = instance.new; schema = steps.new } ≡ validated_of input.now at (tables_of ends words.now pool.now numbers.now) (length instance.old) (length steps.old) }
+fn validate(input: &[u32], at: usize, t: &Tables, instance: &mut [u32], steps: &mut [u32]) -> Flat
+    ensures { record { answer = result; instance = instance.new; schema = steps.new } ≡
+        validated_of input.now at (tables_of t.now) (length instance.old) (length steps.old) }
 {
-    let texts = stored::part(words, ends[0], ends[1]);
-    let nodes = stored::part(words, ends[1], ends[2]);
-    let notes = stored::part(words, ends[2], ends[3]);
-    let schemas = stored::part(words, ends[3], ends[4]);
-    let registry = stored::part(words, ends[4], ends[5]);
-    let patterns = stored::part(words, ends[5], ends[6]);
-    let links = stored::part(words, ends[6], ends[7]);
     let node = stored::word(input, at, 2);
     let schema = stored::word(input, at, 3);
     match stored::word(input, at, 1) {
-        0 => checker::qy_validate(
-            pool, texts, nodes, notes, schemas, registry, patterns, links, numbers, node, schema,
-            instance, steps,
-        ),
-        1 => checker::qy_validate_source(
-            pool, texts, nodes, notes, schemas, registry, patterns, links, numbers, node, schema,
-            instance, steps,
-        ),
-        _ => checker::qy_validate_standard(
-            pool, texts, nodes, notes, schemas, registry, patterns, links, numbers, node, schema,
-            instance, steps,
-        ),
+        0 => checker::qy_validate(t, node, schema, instance, steps),
+        1 => checker::qy_validate_source(t, node, schema, instance, steps),
+        _ => checker::qy_validate_standard(t, node, schema, instance, steps),
     }
 }
 
@@ -99,9 +74,8 @@ fn compare_path(
     ensures { result ≡ path_wrong input.now at count path.now length before }
 {
     let mut wrong = before;
-    let mut k: u32 = 0;
-    while k < length {
-        let field = std::num::wrapping_add_u32(fields, k);
+    for k in 0..length {
+        let field = fields.wrapping_add(k);
         wrong = answer::judge(
             call,
             field,
@@ -109,14 +83,14 @@ fn compare_path(
             text::word(path, k as usize),
             wrong,
         );
-        k += 1;
     }
     wrong
 }
 
 // All that a call leaves: the answer, and both buffers to their ends.
 fn compare(call: u32, input: &[u32], at: usize, found: Flat, instance: &[u32], steps: &[u32]) -> Met
-    ensures { result ≡ left_met input.now at (record { answer = found; instance = instance.now; schema = steps.now }) }
+    ensures { result ≡ left_met input.now at
+        (record { answer = found; instance = instance.now; schema = steps.now }) }
 {
     let answer_at = stored::after(at, ANSWER);
     let count = stored::word(input, answer_at, STEPS);
@@ -129,7 +103,7 @@ fn compare(call: u32, input: &[u32], at: usize, found: Flat, instance: &[u32], s
         INSTANCE_FIELDS,
         input,
         instance_at,
-        std::num::wrapping_add_u32(count, count),
+        count.wrapping_add(count),
         instance,
         stored::word(input, at, INSTANCE_WORDS),
         answered,
@@ -155,16 +129,14 @@ fn judge(
     call: u32,
     input: &[u32],
     at: usize,
-    ends: [usize; 8],
-    words: &[u32],
-    pool: &[u8],
-    numbers: &[u64],
+    t: &Tables,
     instance: &mut [u32],
     steps: &mut [u32],
 ) -> Met
-    ensures { result ≡ left_met input.now at (validated_of input.now at (tables_of ends words.now pool.now numbers.now) (length instance.old) (length steps.old)) }
+    ensures { result ≡ left_met input.now at
+        (validated_of input.now at (tables_of t.now) (length instance.old) (length steps.old)) }
 {
-    let found = validate(input, at, ends, words, pool, numbers, instance, steps);
+    let found = validate(input, at, t, instance, steps);
     compare(call, input, at, found, instance, steps)
 }
 
@@ -173,32 +145,24 @@ fn run_within(
     call: u32,
     input: &[u32],
     at: usize,
-    ends: [usize; 8],
-    words: &[u32],
-    pool: &[u8],
-    numbers: &[u64],
+    t: &Tables,
     instance: &mut [u32],
     steps: &mut [u32],
 ) -> Met
-    ensures { result ≡ within_of input.now at (tables_of ends words.now pool.now numbers.now) (length instance.old) (length steps.old) }
+    ensures { result ≡ within_of input.now at (tables_of t.now) (length instance.old)
+        (length steps.old) }
 {
-    let start = 0;
     let instance_end = text::wide(stored::word(input, at, INSTANCE_WORDS));
     let steps_end = text::wide(stored::word(input, at, SCHEMA_WORDS));
-    if instance_end <= instance.len() {
-        if steps_end <= steps.len() {
-            return judge(
-                call,
-                input,
-                at,
-                ends,
-                words,
-                pool,
-                numbers,
-                &mut instance[start..instance_end],
-                &mut steps[start..steps_end],
-            );
-        }
+    if instance_end <= instance.len() && steps_end <= steps.len() {
+        return judge(
+            call,
+            input,
+            at,
+            t,
+            &mut instance[..instance_end],
+            &mut steps[..steps_end],
+        );
     }
     Met {
         wrong: answer::judge(call, INSTANCE_FIELDS, 0, GARBAGE, 0),
@@ -206,29 +170,10 @@ fn run_within(
     }
 }
 
-pub fn run(
-    call: u32,
-    input: &[u32],
-    at: usize,
-    group: Group,
-    words: &[u32],
-    pool: &[u8],
-    numbers: &[u64],
-) -> Met
-    ensures { result ≡ validation_of input.now at (group_tables group words.now pool.now numbers.now) }
+pub fn run(call: u32, input: &[u32], at: usize, t: &Tables) -> Met
+    ensures { result ≡ validation_of input.now at (tables_of t.now) }
 {
     let mut instance = [GARBAGE; MOST_WORDS];
     let mut steps = [GARBAGE; MOST_WORDS];
-    let ends = group.ends;
-    run_within(
-        call,
-        input,
-        at,
-        ends,
-        words,
-        text::part(pool, 0, group.bytes),
-        stored::first_numbers(numbers, group.numbers),
-        &mut instance,
-        &mut steps,
-    )
+    run_within(call, input, at, t, &mut instance, &mut steps)
 }

@@ -4,12 +4,11 @@ use mathlib.Core.Bool.{Bool, true, false}
 use mathlib.Core.Logic.{⊎_elim}
 use mathlib.Core.List.{List}
 use Prim.Native.Nat.{ℕ}
-use borrow.Author.Tests.{eqb-true, eq-eqb, ne_eqb}
+use borrow.Author.Tests.{eqb-true, ne_eqb}
 use lib.Dec.{eqb}
 use Rattle.text.specs.Choice.{either, either_cases, clash}
 use Rattle.records.specs.declared.Counts.{Counts}
-use Rattle.layout.specs.Layout.{schema_kind}
-use Rattle.rules.specs.Schemas.{schema_note_ok, list_ok, object_ok, schema_rule, schema_ok}
+use Rattle.rules.specs.Schemas.{list_ok, object_ok, schema_rule}
 use Rattle.rules.specs.Parts.{is_list, list_limit, plain_rule}
 
 neither_left : (s t : Bool) → either s t ≡ false → s ≡ false
@@ -19,15 +18,6 @@ neither_left false t h = refl
 neither_right : (s t : Bool) → either s t ≡ false → t ≡ false
 neither_right true t h = clash refl h
 neither_right false t h = h
-
-module _ (z : Counts) (s : ℕ) where
-  pub nodes_limit : (kind : ℕ) → kind ≡ 5 → z.nodes ≡ list_limit z s kind
-  unfolding list_limit
-  nodes_limit kind h = rw (eq-eqb kind 5 h)
-
-  pub schemas_limit : (kind : ℕ) → (kind ≡ 5 → ⊥) → s ≡ list_limit z s kind
-  unfolding list_limit
-  schemas_limit kind h = rw (ne_eqb kind 5 h)
 
 module _ (z : Counts) (pool texts links schemas : List ℕ) (s kind : ℕ) {r : Bool} where
   -- with the kind known
@@ -50,12 +40,3 @@ module _ (z : Counts) (pool texts links schemas : List ℕ) (s kind : ℕ) {r : 
   rule_plain t h e =
       let u = neither_right (eqb kind 5) (either (eqb kind 7) (eqb kind 8)) t in
       simp (neither_left (eqb kind 5) (either (eqb kind 7) (eqb kind 8)) t, neither_left (eqb kind 7) (eqb kind 8) u, neither_right (eqb kind 7) (eqb kind 8) u, ne_eqb kind 10 h) e
-
-module _ (z : Counts) (pool texts links schemas : List ℕ) (s : ℕ) where
-  pub note_good : {r : Bool} → schema_note_ok z schemas s ≡ true → r ≡ schema_rule z pool texts links schemas s (schema_kind schemas s) → r ≡ schema_ok z pool texts links schemas s
-  unfolding schema_ok
-  note_good t e = rw t e
-
-  pub note_bad : schema_note_ok z schemas s ≡ false → false ≡ schema_ok z pool texts links schemas s
-  unfolding schema_ok
-  note_bad t = rw t

@@ -1,5 +1,6 @@
 // When a record of table 4 is good, kind by kind.
 ghost use Rattle.std.specs.Prelude.{◌≡◌};
+ghost use Rattle.layout.specs.Lent.{tables_of};
 ghost use Rattle.rules.specs.Parts.{is_list, list_limit, plain_rule};
 ghost use Rattle.rules.specs.Schemas.{
   unused_from,
@@ -18,262 +19,189 @@ ghost use Rattle.rules.specs.Schemas.{
   schema_ok,
 };
 
-use layout::schema;
 use layout::words::{NONE, SCHEMA_WORDS};
-use lists::{both, either, list_below, optional_below, pairs_ok};
+use layout::{Tables, kind};
+use lists::{list_below, optional_below, pairs_ok};
 use records::Counts;
 
 // Whether the words from k on are 0.
-fn unused_from(schemas: &[u32], s: u32, k: u32) -> bool
-    ensures { result ≡ unused_from schemas.now s k }
+fn unused_from(t: &Tables, s: u32, k: u32) -> bool
+    ensures { let T = tables_of t.now in result ≡ unused_from T.schemas s k }
 {
-    let mut i = k;
-    while (i as usize) < SCHEMA_WORDS {
-        if schema::schema_word(schemas, s, i) != 0 {
-            return false;
-        }
-        i += 1;
-    }
-    true
+    (k..SCHEMA_WORDS as u32).all(|i| t.schema_word(s, i) == 0)
 }
 
-fn schema_note_ok(z: Counts, schemas: &[u32], s: u32) -> bool
-    ensures { result ≡ schema_note_ok z schemas.now s }
+#[tactic(auto, unfolding(crate::specs::Schemas::schema_note_ok))]
+fn schema_note_ok(z: Counts, t: &Tables, s: u32) -> bool
+    ensures { let T = tables_of t.now in result ≡ schema_note_ok z T.schemas s }
 {
-    optional_below(schema::schema_note(schemas, s), z.notes)
+    optional_below(t.schema_note(s), z.notes)
 }
 
-fn true_ok(schemas: &[u32], s: u32) -> bool
-    ensures { result ≡ true_ok schemas.now s }
+#[tactic(auto, unfolding(crate::specs::Schemas::true_ok))]
+fn true_ok(t: &Tables, s: u32) -> bool
+    ensures { let T = tables_of t.now in result ≡ true_ok T.schemas s }
 {
-    both(
-        schema::schema_note(schemas, s) == NONE,
-        unused_from(schemas, s, 2),
-    )
+    t.schema_note(s) == NONE && unused_from(t, s, 2)
 }
 
-fn number_ok(z: Counts, schemas: &[u32], s: u32) -> bool
-    ensures { result ≡ number_ok z schemas.now s }
+#[tactic(auto, unfolding(crate::specs::Schemas::number_ok))]
+fn number_ok(z: Counts, t: &Tables, s: u32) -> bool
+    ensures { let T = tables_of t.now in result ≡ number_ok z T.schemas s }
 {
     let count = z.numbers;
-    both(
-        optional_below(schema::number_minimum(schemas, s), count),
-        both(
-            optional_below(schema::number_maximum(schemas, s), count),
-            both(
-                optional_below(schema::number_exclusive_minimum(schemas, s), count),
-                both(
-                    optional_below(schema::number_exclusive_maximum(schemas, s), count),
-                    both(
-                        optional_below(schema::number_multiple(schemas, s), count),
-                        unused_from(schemas, s, 7),
-                    ),
-                ),
-            ),
-        ),
-    )
+    optional_below(t.number_minimum(s), count)
+        && optional_below(t.number_maximum(s), count)
+        && optional_below(t.number_exclusive_minimum(s), count)
+        && optional_below(t.number_exclusive_maximum(s), count)
+        && optional_below(t.number_multiple(s), count)
+        && unused_from(t, s, 7)
 }
 
-fn string_ok(z: Counts, schemas: &[u32], s: u32) -> bool
-    ensures { result ≡ string_ok z schemas.now s }
+#[tactic(auto, unfolding(crate::specs::Schemas::string_ok))]
+fn string_ok(z: Counts, t: &Tables, s: u32) -> bool
+    ensures { let T = tables_of t.now in result ≡ string_ok z T.schemas s }
 {
-    both(
-        optional_below(schema::string_pattern(schemas, s), z.texts),
-        unused_from(schemas, s, 5),
-    )
+    optional_below(t.string_pattern(s), z.texts) && unused_from(t, s, 5)
 }
 
 // An enum's nodes, or earlier schemas.
-fn list_ok(links: &[u32], schemas: &[u32], s: u32, limit: usize) -> bool
-    ensures { result ≡ list_ok links.now schemas.now s limit }
+#[tactic(auto, unfolding(crate::specs::Schemas::list_ok))]
+fn list_ok(t: &Tables, s: u32, limit: usize) -> bool
+    ensures { let T = tables_of t.now in result ≡ list_ok T.links T.schemas s limit }
 {
-    both(
-        list_below(
-            links,
-            schema::list_first(schemas, s),
-            text::wide(schema::list_count(schemas, s)),
-            limit,
-        ),
-        unused_from(schemas, s, 4),
-    )
+    list_below(t, t.list_first(s), text::wide(t.list_count(s)), limit) && unused_from(t, s, 4)
 }
 
-fn array_ok(schemas: &[u32], s: u32) -> bool
-    ensures { result ≡ array_ok schemas.now s }
+#[tactic(auto, unfolding(crate::specs::Schemas::array_ok))]
+fn array_ok(t: &Tables, s: u32) -> bool
+    ensures { let T = tables_of t.now in result ≡ array_ok T.schemas s }
 {
-    let unique = schema::array_unique(schemas, s);
-    both(
-        optional_below(schema::array_items(schemas, s), s as usize),
-        both(
-            either(unique == NONE, unique <= 1),
-            unused_from(schemas, s, 6),
-        ),
-    )
+    let unique = t.array_unique(s);
+    optional_below(t.array_items(s), s as usize)
+        && (unique == NONE || unique <= 1)
+        && unused_from(t, s, 6)
 }
 
-fn bases_ok(links: &[u32], schemas: &[u32], s: u32) -> bool
-    ensures { result ≡ bases_ok links.now schemas.now s }
+#[tactic(auto, unfolding(crate::specs::Schemas::bases_ok))]
+fn bases_ok(t: &Tables, s: u32) -> bool
+    ensures { let T = tables_of t.now in result ≡ bases_ok T.links T.schemas s }
 {
-    let first = schema::bases_first(schemas, s);
-    let count = schema::bases_count(schemas, s);
+    let first = t.bases_first(s);
+    let count = t.bases_count(s);
     if first == NONE {
         count == 0
     } else {
-        list_below(links, first, text::wide(count), s as usize)
+        list_below(t, first, text::wide(count), s as usize)
     }
 }
 
 // The properties and the pattern properties.
-fn object_pairs_ok(
-    z: Counts,
-    pool: &[u8],
-    texts: &[u32],
-    links: &[u32],
-    schemas: &[u32],
-    s: u32,
-) -> bool
-    ensures { result ≡ object_pairs_ok z pool.now texts.now links.now schemas.now s }
+#[tactic(auto, unfolding(crate::specs::Schemas::object_pairs_ok))]
+fn object_pairs_ok(z: Counts, t: &Tables, s: u32) -> bool
+    ensures { let T = tables_of t.now in
+        result ≡ object_pairs_ok z T.pool T.texts T.links T.schemas s }
 {
     let limit = s as usize;
     let known = z.texts;
-    both(
-        pairs_ok(
-            pool,
-            texts,
-            links,
-            schema::properties_first(schemas, s),
-            schema::properties_count(schemas, s),
-            known,
-            limit,
-        ),
-        pairs_ok(
-            pool,
-            texts,
-            links,
-            schema::pattern_properties_first(schemas, s),
-            schema::pattern_properties_count(schemas, s),
-            known,
-            limit,
-        ),
+    pairs_ok(
+        t,
+        t.properties_first(s),
+        t.properties_count(s),
+        known,
+        limit,
+    ) && pairs_ok(
+        t,
+        t.pattern_properties_first(s),
+        t.pattern_properties_count(s),
+        known,
+        limit,
     )
 }
 
 // The words after them.
-fn object_words_ok(z: Counts, links: &[u32], schemas: &[u32], s: u32) -> bool
-    ensures { result ≡ object_words_ok z links.now schemas.now s }
+#[tactic(auto, unfolding(crate::specs::Schemas::object_words_ok))]
+fn object_words_ok(z: Counts, t: &Tables, s: u32) -> bool
+    ensures { let T = tables_of t.now in result ≡ object_words_ok z T.links T.schemas s }
 {
     let limit = s as usize;
-    both(
-        optional_below(schema::additional_properties(schemas, s), limit),
-        both(
-            list_below(
-                links,
-                schema::required_first(schemas, s),
-                text::wide(schema::required_count(schemas, s)),
-                z.texts,
-            ),
-            both(
-                schema::object_closed(schemas, s) <= 1,
-                both(
-                    optional_below(schema::property_names(schemas, s), limit),
-                    bases_ok(links, schemas, s),
-                ),
-            ),
-        ),
-    )
+    optional_below(t.additional_properties(s), limit)
+        && list_below(
+            t,
+            t.required_first(s),
+            text::wide(t.required_count(s)),
+            z.texts,
+        )
+        && t.object_closed(s) <= 1
+        && optional_below(t.property_names(s), limit)
+        && bases_ok(t, s)
 }
 
-fn object_ok(z: Counts, pool: &[u8], texts: &[u32], links: &[u32], schemas: &[u32], s: u32) -> bool
-    ensures { result ≡ object_ok z pool.now texts.now links.now schemas.now s }
+#[tactic(auto, unfolding(crate::specs::Schemas::object_ok))]
+fn object_ok(z: Counts, t: &Tables, s: u32) -> bool
+    ensures { let T = tables_of t.now in result ≡ object_ok z T.pool T.texts T.links T.schemas s }
 {
-    both(
-        object_pairs_ok(z, pool, texts, links, schemas, s),
-        object_words_ok(z, links, schemas, s),
-    )
+    object_pairs_ok(z, t, s) && object_words_ok(z, t, s)
 }
 
-fn ref_ok(z: Counts, schemas: &[u32], s: u32) -> bool
-    ensures { result ≡ ref_ok z schemas.now s }
+#[tactic(auto, unfolding(crate::specs::Schemas::ref_ok))]
+fn ref_ok(z: Counts, t: &Tables, s: u32) -> bool
+    ensures { let T = tables_of t.now in result ≡ ref_ok z T.schemas s }
 {
-    both(
-        text::wide(schema::ref_text(schemas, s)) < z.texts,
-        both(
-            schema::ref_eager(schemas, s) <= 1,
-            unused_from(schemas, s, 4),
-        ),
-    )
+    text::wide(t.ref_text(s)) < z.texts && t.ref_eager(s) <= 1 && unused_from(t, s, 4)
 }
 
+#[tactic(auto, unfolding(crate::specs::Parts::is_list))]
 fn is_list(kind: u32) -> bool
     ensures { result ≡ is_list kind }
 {
-    either(kind == 5, either(kind == 7, kind == 8))
+    kind == kind::ENUM || kind == kind::ANY_OF || kind == kind::ALL_OF
 }
 
 // An enum lists nodes, anyOf and allOf earlier schemas.
+#[tactic(auto, unfolding(crate::specs::Parts::list_limit))]
 fn list_limit(z: Counts, s: u32, kind: u32) -> usize
     ensures { result ≡ list_limit z s kind }
 {
-    if kind == 5 { z.nodes } else { s as usize }
+    if kind == kind::ENUM {
+        z.nodes
+    } else {
+        s as usize
+    }
 }
 
 // The kinds whose words name no list.
-fn plain_rule(z: Counts, schemas: &[u32], s: u32, kind: u32) -> bool
-    ensures { result ≡ plain_rule z schemas.now s kind }
+#[tactic(auto, unfolding(crate::specs::Parts::plain_rule))]
+fn plain_rule(z: Counts, t: &Tables, s: u32, kind: u32) -> bool
+    ensures { let T = tables_of t.now in result ≡ plain_rule z T.schemas s kind }
 {
     match kind {
-        0 => true_ok(schemas, s),
-        1 => unused_from(schemas, s, 2),
-        2 => number_ok(z, schemas, s),
-        3 => string_ok(z, schemas, s),
-        4 => unused_from(schemas, s, 2),
-        6 => unused_from(schemas, s, 2),
-        9 => array_ok(schemas, s),
-        11 => ref_ok(z, schemas, s),
+        kind::TRUE => true_ok(t, s),
+        kind::BOOLEAN | kind::NULL | kind::ANY => unused_from(t, s, 2),
+        kind::NUMBER => number_ok(z, t, s),
+        kind::STRING => string_ok(z, t, s),
+        kind::ARRAY => array_ok(t, s),
+        kind::REF => ref_ok(z, t, s),
         _ => false,
     }
 }
 
-fn schema_rule(
-    z: Counts,
-    pool: &[u8],
-    texts: &[u32],
-    links: &[u32],
-    schemas: &[u32],
-    s: u32,
-    kind: u32,
-) -> bool
-    ensures { result ≡ schema_rule z pool.now texts.now links.now schemas.now s kind }
+fn schema_rule(z: Counts, t: &Tables, s: u32, kind: u32) -> bool
+    ensures { let T = tables_of t.now in
+        result ≡ schema_rule z T.pool T.texts T.links T.schemas s kind }
 {
     if is_list(kind) {
-        return list_ok(links, schemas, s, list_limit(z, s, kind));
+        return list_ok(t, s, list_limit(z, s, kind));
     }
-    if kind == 10 {
-        return object_ok(z, pool, texts, links, schemas, s);
+    if kind == kind::OBJECT {
+        return object_ok(z, t, s);
     }
-    plain_rule(z, schemas, s, kind)
+    plain_rule(z, t, s, kind)
 }
 
-pub fn schema_ok(
-    z: Counts,
-    pool: &[u8],
-    texts: &[u32],
-    links: &[u32],
-    schemas: &[u32],
-    s: u32,
-) -> bool
-    ensures { result ≡ schema_ok z pool.now texts.now links.now schemas.now s }
+#[tactic(auto, unfolding(crate::specs::Schemas::schema_ok))]
+pub fn schema_ok(z: Counts, t: &Tables, s: u32) -> bool
+    ensures { let T = tables_of t.now in result ≡ schema_ok z T.pool T.texts T.links T.schemas s }
 {
-    if schema_note_ok(z, schemas, s) {
-        return schema_rule(
-            z,
-            pool,
-            texts,
-            links,
-            schemas,
-            s,
-            schema::schema_kind(schemas, s),
-        );
-    }
-    false
+    schema_note_ok(z, t, s) && schema_rule(z, t, s, t.schema_kind(s))
 }

@@ -9,7 +9,7 @@ use lib.Seq.{take-set-le, get_or-set_other, get_or-set_same}
 use Rattle.text.specs.Choice.{le_or_lt}
 use Rattle.stored.specs.Stored.{laid}
 
-module _ (place element : ℕ → ℕ) (into : List ℕ) where
+module _ {A : Type 0} (place : ℕ → ℕ) (element : ℕ → A) (into : List A) where
   pub laid_none : into ≡ laid place element 0 into
   unfolding laid
   laid_none = refl
@@ -19,15 +19,15 @@ module _ (place element : ℕ → ℕ) (into : List ℕ) where
   step i = refl
 
   -- what a turn of a loop leaves
-  pub laid_more : (i : ℕ) {words : List ℕ} {p e : ℕ} → words ≡ laid place element i into → p ≡ place i → e ≡ element i → set words p e ≡ laid place element (i + 1) into
+  pub laid_more : (i : ℕ) {words : List A} {p : ℕ} {e : A} → words ≡ laid place element i into → p ≡ place i → e ≡ element i → set words p e ≡ laid place element (i + 1) into
   laid_more i {words} {p} {e} w q r =
-      ap (λ (l : List ℕ). set l p e) w
+      ap (λ (l : List A). set l p e) w
       ∙ ap (λ (k : ℕ). set (laid place element i into) k e) q
-      ∙ ap (λ (x : ℕ). set (laid place element i into) (place i) x) r
+      ∙ ap (λ (x : A). set (laid place element i into) (place i) x) r
       ∙ step i
       ∙ ap (λ (n : ℕ). laid place element n into) (omega arith)
 
-  pub laid_all : (i n : ℕ) {words : List ℕ} → words ≡ laid place element i into → i ≡ n → words ≡ laid place element n into
+  pub laid_all : (i n : ℕ) {words : List A} → words ≡ laid place element i into → i ≡ n → words ≡ laid place element n into
   laid_all i n w e = w ∙ ap (λ (k : ℕ). laid place element k into) e
 
   pub laid-length : (n : ℕ) → length (laid place element n into) ≡ length into
@@ -41,7 +41,8 @@ module _ (place element : ℕ → ℕ) (into : List ℕ) where
   laid-before from zero h = refl
   laid-before from (suc n) h = take-set-le from (laid place element n into) (place n) (element n) (h n) ∙ laid-before from n h
 
-  -- so does a word at none of them
+-- so does a word at none of them
+module _ (place element : ℕ → ℕ) (into : List ℕ) where
   pub laid_beside : (j n : ℕ) → ((i : ℕ) → i < n → j ≡ place i → ⊥) → get_or (laid place element n into) j 0 ≡ get_or into j 0
   unfolding laid
   laid_beside j zero h = refl

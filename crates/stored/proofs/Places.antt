@@ -5,9 +5,9 @@ use mathlib.Core.List.{List, []}
 use native.Mathlib.Omega.{arith}
 use lib.ListN.{length, take, drop}
 use borrow.Author.Tests.{le-leb, lt-leb}
-use Rattle.text.specs.Choice.{pick_yes, pick_no, pick_same}
+use Rattle.text.specs.Choice.{pick, pick_yes, pick_no, pick_same}
 use Rattle.text.specs.Text.{part_of, fits_in}
-use Rattle.text.proofs.Texts.{part_in, part_out, fits-yes, fits_no}
+use Rattle.text.proofs.Parts.{part_in, fits-yes, fits_no}
 use Rattle.stored.specs.Stored.{place_after, between}
 
 pub place_near : (at count : ℕ) → at ≤ 4294967296 → place_after at count ≡ at + count
@@ -27,20 +27,17 @@ pub front : (s : List ℕ) (len : ℕ) → len ≤ length s → part_of s 0 len 
 front s len h = part_within s 0 len (omega arith)
 
 -- a part between two places
-pub between_in : (words : List ℕ) (start end : ℕ) → start ≤ end → end ≤ length words → take (end - start) (drop start words) ≡ between words start end
-unfolding between
-between_in words start end h g = sym (part_within words start (end - start) (omega arith))
+module _ {A : Type 0} (elements : List A) (start end : ℕ) where
+  pub between_in : start ≤ end → end ≤ length elements → take (end - start) (drop start elements) ≡ between elements start end
+  unfolding between
+  between_in h g = sym (pick_yes _ _ (fits-yes (length elements) start (end - start) (omega arith)))
 
-pub between_past : (words : List ℕ) (start end : ℕ) → length words < end → [] ≡ between words start end
-unfolding between
-between_past words start end h = sym (part_out words start (end - start) (fits_no (length words) start (end - start) (omega arith)))
+  pub between_past : length elements < end → [] ≡ between elements start end
+  unfolding between
+  between_past h = sym (pick_no _ _ (fits_no (length elements) start (end - start) (omega arith)))
 
-pub between-back : (words : List ℕ) (start end : ℕ) → end < start → [] ≡ between words start end
-unfolding between part_of
-between-back words start end h = sym (ap (part_of words start) none ∙ empty)
-  where
-    none : end - start ≡ 0
-    none = omega arith
-
-    empty : part_of words start 0 ≡ []
-    empty = pick_same (fits_in (length words) start 0) []
+  pub between_back : end < start → [] ≡ between elements start end
+  unfolding between
+  between_back h =
+      let none : end - start ≡ 0 = omega arith in
+      sym (ap (λ (n : ℕ). pick (fits_in (length elements) start n) (take n (drop start elements)) []) none ∙ pick_same (fits_in (length elements) start 0) [])

@@ -1,11 +1,13 @@
 -- What stands at hand while a file is read: moved to the front, and read behind. Assumes nothing.
-use Prim.Native.Nat.{ℕ, ◌+◌, ◌*◌, ◌-◌, ◌/◌, ◌≤◌, ◌<◌}
+use Prim.Native.Nat.{ℕ, zero, suc, ◌+◌, ◌*◌, ◌-◌, ◌/◌, ◌≤◌, ◌<◌}
 use mathlib.Core.Path.{◌≡◌, refl, sym, ap, ◌∙◌}
 use mathlib.Core.List.{List}
 use native.Mathlib.Omega.{arith}
 use lib.ListN.{length, get_or, set, take, drop, length-drop}
 use lib.Seq.{ext_get_or, get_or-take, get_or-drop, length-take-le}
 use lib.Dec.{leb}
+use Rattle.std.specs.List.{copy_within}
+use Rattle.std.proofs.Math.Seq.{paste, paste-zero, paste-suc}
 use borrow.Author.Tests.{leb-true, le-leb, lt-leb, lt-ltb, le-ltb}
 use mathlib.Core.Logic.{⊎_elim}
 use mathlib.Core.Bool.{Bool, true, false}
@@ -13,24 +15,21 @@ use Rattle.text.specs.Choice.{pick_yes, pick_no, le_or_lt}
 use Rattle.stored.specs.Stored.{laid}
 use Rattle.stored.specs.Input.{word_of, word_at, words_put, room_for, moved, Behind, Refilled}
 use Rattle.stored.proofs.Places.{part_within, front}
-use Rattle.stored.proofs.Laying.{laid_none, laid_more, laid-length, laid-before, laid_at_lem, laid_beside}
+use Rattle.stored.proofs.Laying.{laid-length, laid-before, laid_at_lem}
 
--- the word that the next turn moves to the front is still the first one
-not_yet : (words : List ℕ) (from i : ℕ) → get_or (laid (λ j. j) (λ j. get_or words (from + j) 0) i words) (from + i) 0 ≡ get_or words (from + i) 0
-not_yet words from i =
-    laid_beside (λ j. j) (λ j. get_or words (from + j) 0) words (from + i) i (λ j l e. omega arith)
+-- words copied from a place on, one more at a time
+pasted : (words : List ℕ) (from n : ℕ) → from + n ≤ length words → paste words 0 (drop from words) n ≡ laid (λ j. j) (λ j. get_or words (from + j) 0) n words
+unfolding laid
+pasted words from zero h = sym (paste-zero words 0 (drop from words))
+pasted words from (suc n) h =
+    sym (paste-suc words 0 (drop from words) n 0 (omega arith) (omega (arith, length-drop from words)))
+    ∙ ap (λ (i : ℕ). set (paste words 0 (drop from words) n) i (get_or (drop from words) n 0)) (omega arith)
+    ∙ ap (λ (x : ℕ). set (paste words 0 (drop from words) n) n x) (get_or-drop from words n 0)
+    ∙ ap (λ (l : List ℕ). set l n (get_or words (from + n) 0)) (pasted words from n (omega arith))
 
-pub moved_none : (words : List ℕ) (from : ℕ) → words ≡ moved words from 0
+pub moved_copied : (words : List ℕ) (from count : ℕ) → from + count ≤ length words → copy_within words from (from + count) 0 ≡ moved words from count
 unfolding moved
-moved_none words from = laid_none (λ j. j) (λ j. get_or words (from + j) 0) words
-
-pub moved_more : (words : List ℕ) (from i : ℕ) {now : List ℕ} → now ≡ moved words from i → set now i (get_or now (from + i) 0) ≡ moved words from (i + 1)
-unfolding moved
-moved_more words from i e =
-    laid_more (λ j. j) (λ j. get_or words (from + j) 0) words i e refl (ap (λ (l : List ℕ). get_or l (from + i) 0) e ∙ not_yet words from i)
-
-pub moved_all : (words : List ℕ) (from i n : ℕ) {now : List ℕ} → now ≡ moved words from i → i ≡ n → now ≡ moved words from n
-moved_all words from i n e q = e ∙ ap (moved words from) q
+moved_copied words from count h = let e : from + count - from ≡ count = omega arith in ap (paste words 0 (drop from words)) e ∙ pasted words from count h
 
 module _ (words : List ℕ) (from count : ℕ) where
   pub moved_length : length (moved words from count) ≡ length words

@@ -1,14 +1,15 @@
 -- A group's elements, one after the other: each branch of the code against its definition. Assumes nothing.
-use Prim.Native.Nat.{ℕ, suc, ◌+◌, ◌/◌, ◌%◌, ◌≤◌, ◌<◌}
+use Prim.Native.Nat.{ℕ, suc, ◌+◌, ◌/◌, ◌%◌}
 use mathlib.Core.Path.{◌≡◌, refl, sym, ap, ◌∙◌}
 use mathlib.Core.List.{List}
 use native.Mathlib.Omega.{arith}
 use lib.ListN.{set, replicate}
-use borrow.Author.Tests.{eq-eqb, ne_eqb, lt-ltb, le-ltb}
+use borrow.Author.Tests.{eq-eqb, ne_eqb}
 use Rattle.text.specs.Choice.{pick_yes, pick_no}
 use Rattle.stored.specs.Stored.{place_after, word_behind, number_of, number_at}
-use Rattle.stored.specs.Group.{octet_of, words_for, head_at, bytes_unpacked, numbers_unpacked, unpacked, unpacked_of, element_of, byte_element_of, number_element_of, words_unpacked, Unpacking, unpacking, table_unpacked, tables_unpacked, tables_at}
+use Rattle.stored.specs.Group.{octet_of, words_for, head_at, bytes_unpacked, numbers_unpacked, unpacked, unpacked_of, element_of, byte_element_of, number_element_of, slice_unpacked, words_unpacked, Unpacking, unpacking, table_unpacked, tables_unpacked, tables_at}
 use Rattle.stored.specs.declared.group.Extent.{Extent}
+use Rattle.stored.proofs.Places.{place_near}
 
 module _ (word k : ℕ) where
   pub octet_first : k ≡ 0 → word % 256 ≡ octet_of word k
@@ -33,31 +34,26 @@ pub head_read : (input : List ℕ) (at : ℕ) {a b c : ℕ} → a ≡ word_behin
 unfolding head_at
 head_read input at p q r = λ i. record { length = p i; kept = q i; fill = r i }
 
--- a stored element, and one that fills the rest
-module _ (input : List ℕ) (from : ℕ) (head : Extent) (i : ℕ) where
-  pub element_kept : {r : ℕ} → i < head.kept → r ≡ word_behind input from i → r ≡ element_of input from head i
-  unfolding element_of
-  element_kept h e = e ∙ sym (pick_yes _ _ (lt-ltb _ _ h))
+-- from the front on, a place is its number
+front_place : ◌≡◌ {A = ℕ → ℕ} (place_after 0) (λ j. j)
+front_place = λ k j. (near j) k
+  where
+    near : (j : ℕ) → place_after 0 j ≡ j
+    near j = let e : 0 + j ≡ j = omega arith in place_near 0 j (omega arith) ∙ e
 
-  pub element_fill : head.kept ≤ i → head.fill ≡ element_of input from head i
-  unfolding element_of
-  element_fill h = sym (pick_no _ _ (le-ltb _ _ h))
+-- a slice, from what the code stores: words, bytes and numbers
+module _ (input : List ℕ) (from : ℕ) (head : Extent) (into : List ℕ) where
+  pub words_slice : (start : ℕ) → slice_unpacked head (word_behind input from) head.fill (place_after start) into ≡ words_unpacked input from head start into
+  unfolding words_unpacked element_of
+  words_slice start = refl
 
-  pub byte_kept : {r w : ℕ} → i < head.kept → w ≡ word_behind input from (i / 4) → r ≡ octet_of w (i % 4) → r ≡ byte_element_of input from head i
-  unfolding byte_element_of
-  byte_kept h w e = e ∙ ap (λ (x : ℕ). octet_of x (i % 4)) w ∙ sym (pick_yes _ _ (lt-ltb _ _ h))
+  pub bytes_slice : {fill : ℕ} → fill ≡ octet_of head.fill 0 → slice_unpacked head (λ i. octet_of (word_behind input from (i / 4)) (i % 4)) fill (place_after 0) into ≡ bytes_unpacked input from head into
+  unfolding bytes_unpacked byte_element_of
+  bytes_slice e = λ k. slice_unpacked head (λ i. octet_of (word_behind input from (i / 4)) (i % 4)) (e k) (front_place k) into
 
-  pub byte_fill : {r : ℕ} → head.kept ≤ i → r ≡ octet_of head.fill 0 → r ≡ byte_element_of input from head i
-  unfolding byte_element_of
-  byte_fill h e = e ∙ sym (pick_no _ _ (le-ltb _ _ h))
-
-  pub number-kept : {r p q : ℕ} → i < head.kept → p ≡ place_after from i → q ≡ place_after p i → r ≡ number_at input q → r ≡ number_element_of input from head i
-  unfolding number_element_of
-  number-kept h p q e = e ∙ ap (number_at input) (q ∙ ap (λ (x : ℕ). place_after x i) p) ∙ sym (pick_yes _ _ (lt-ltb _ _ h))
-
-  pub number_fill : {r : ℕ} → head.kept ≤ i → r ≡ number_of head.fill 0 → r ≡ number_element_of input from head i
-  unfolding number_element_of
-  number_fill h e = e ∙ sym (pick_no _ _ (le-ltb _ _ h))
+  pub numbers_slice : {fill : ℕ} → fill ≡ number_of head.fill 0 → slice_unpacked head (λ i. number_at input (place_after (place_after from i) i)) fill (place_after 0) into ≡ numbers_unpacked input from head into
+  unfolding numbers_unpacked number_element_of
+  numbers_slice e = λ k. slice_unpacked head (λ i. number_at input (place_after (place_after from i) i)) (e k) (front_place k) into
 
 -- one more table: a turn of the loop over the seven
 module _ (input : List ℕ) where

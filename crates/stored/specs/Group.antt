@@ -18,18 +18,27 @@ words_for bytes = bytes / 4 + (bytes % 4 + 3) / 4
 unfoldable pub head_at : List ℕ → ℕ → Extent
 head_at input at = record { length = word_behind input at 0; kept = word_behind input at 1; fill = word_behind input at 2 }
 
-module _ (input : List ℕ) (from : ℕ) (head : Extent) where
+module _ {A : Type 0} (head : Extent) (stored : ℕ → A) (fill : A) where
   -- element i of a slice: a stored one, or the one that fills the rest
+  abbrev pub kept_or : ℕ → A
+  kept_or i = pick (ltb i head.kept) (stored i) fill
+
+  -- the slice itself, each element at its place
+  abbrev pub slice_unpacked : (ℕ → ℕ) → List A → List A
+  slice_unpacked place into = laid place kept_or head.length into
+
+module _ (input : List ℕ) (from : ℕ) (head : Extent) where
+  -- element i of words
   unfoldable pub element_of : ℕ → ℕ
-  element_of i = pick (ltb i head.kept) (word_behind input from i) head.fill
+  element_of = kept_or head (word_behind input from) head.fill
 
   -- the same of bytes, four to a word
   unfoldable pub byte_element_of : ℕ → ℕ
-  byte_element_of i = pick (ltb i head.kept) (octet_of (word_behind input from (i / 4)) (i % 4)) (octet_of head.fill 0)
+  byte_element_of = kept_or head (λ i. octet_of (word_behind input from (i / 4)) (i % 4)) (octet_of head.fill 0)
 
   -- the same of numbers, two words each
   unfoldable pub number_element_of : ℕ → ℕ
-  number_element_of i = pick (ltb i head.kept) (number_at input (place_after (place_after from i) i)) (number_of head.fill 0)
+  number_element_of = kept_or head (λ i. number_at input (place_after (place_after from i) i)) (number_of head.fill 0)
 
   -- the slices themselves: a table goes into the buffer of all tables from a place on, bytes and numbers have buffers of their own
   unfoldable pub words_unpacked : ℕ → List ℕ → List ℕ

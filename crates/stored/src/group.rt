@@ -1,21 +1,17 @@
 // The tables of a group of a stored file, unpacked.
-ghost use Rattle.std.specs.Prelude.{◌≡◌};
+ghost use Rattle.std.specs.Prelude.{◌≡◌, ℕ};
+ghost use Rattle.stored.specs.Stored.{place_after};
 ghost use Rattle.stored.specs.Group.{
   octet_of,
   words_for,
   head_at,
-  element_of,
-  byte_element_of,
-  number_element_of,
-  words_unpacked,
-  bytes_unpacked,
-  numbers_unpacked,
+  slice_unpacked,
   tables_at,
   unpacked,
   unpacked_of,
 };
 
-use crate::{after, number, pair, put, put_byte, put_number, word};
+use crate::{after, number, pair, put, word};
 
 // A slice as stored: how long it is lent, how many elements are stored, and the element that fills the rest.
 #[derive(Clone, Copy)]
@@ -50,18 +46,20 @@ pub struct Group {
 fn octet(word: u32, k: u32) -> u8
     ensures { result ≡ octet_of word k }
 {
+    let [first, second, third, last] = word.to_le_bytes();
     match k {
-        0 => (word % 256) as u8,
-        1 => (word / 256 % 256) as u8,
-        2 => (word / 65536 % 256) as u8,
-        _ => (word / 16777216 % 256) as u8,
+        0 => first,
+        1 => second,
+        2 => third,
+        _ => last,
     }
 }
 
+#[tactic(auto, unfolding(crate::specs::Group::words_for))]
 fn words_for(bytes: u32) -> u32
     ensures { result ≡ words_for bytes }
 {
-    bytes / 4 + (bytes % 4 + 3) / 4
+    bytes.div_ceil(4)
 }
 
 fn head(input: &[u32], at: usize) -> Extent
@@ -74,63 +72,21 @@ fn head(input: &[u32], at: usize) -> Extent
     }
 }
 
-fn element(input: &[u32], from: usize, head: Extent, i: u32) -> u32
-    ensures { result ≡ element_of input.now from head i }
+// Stores a slice's elements from a place on: the stored ones, and the one that fills the rest.
+fn unpack_slice<T: Copy, F: Fn(u32) -> T>(
+    head: Extent,
+    start: usize,
+    into: &mut [T],
+    fill: T,
+    stored: F,
+)
+    requires { F.IsAlwaysCallable stored }
+    ensures { (f : ℕ → T) → ((i : ℕ) (element : T) → F.post stored i element → element ≡ f i) →
+        into.new ≡ slice_unpacked head f fill (place_after start) into.old }
 {
-    if i < head.kept {
-        return word(input, from, i);
-    }
-    head.fill
-}
-
-fn byte_element(input: &[u32], from: usize, head: Extent, i: u32) -> u8
-    ensures { result ≡ byte_element_of input.now from head i }
-{
-    if i < head.kept {
-        return octet(word(input, from, i / 4), i % 4);
-    }
-    octet(head.fill, 0)
-}
-
-fn number_element(input: &[u32], from: usize, head: Extent, i: u32) -> u64
-    ensures { result ≡ number_element_of input.now from head i }
-{
-    if i < head.kept {
-        return number(input, after(after(from, i), i));
-    }
-    pair(head.fill, 0)
-}
-
-fn unpack_words(input: &[u32], from: usize, head: Extent, start: usize, into: &mut [u32])
-    ensures { into.new ≡ words_unpacked input.now from head start into.old }
-{
-    let count = head.length;
-    let mut i: u32 = 0;
-    while i < count {
-        put(into, after(start, i), element(input, from, head, i));
-        i += 1;
-    }
-}
-
-fn unpack_bytes(input: &[u32], from: usize, head: Extent, into: &mut [u8])
-    ensures { into.new ≡ bytes_unpacked input.now from head into.old }
-{
-    let count = head.length;
-    let mut i: u32 = 0;
-    while i < count {
-        put_byte(into, i as usize, byte_element(input, from, head, i));
-        i += 1;
-    }
-}
-
-fn unpack_numbers(input: &[u32], from: usize, head: Extent, into: &mut [u64])
-    ensures { into.new ≡ numbers_unpacked input.now from head into.old }
-{
-    let count = head.length;
-    let mut i: u32 = 0;
-    while i < count {
-        put_number(into, i as usize, number_element(input, from, head, i));
-        i += 1;
+    for i in 0..head.length {
+        let element = if i < head.kept { stored(i) } else { fill };
+        put(into, after(start, i), element);
     }
 }
 
@@ -144,15 +100,13 @@ fn unpack_tables(input: &[u32], heads: usize, from: usize, words: &mut [u32]) ->
     let mut head_at = heads;
     let mut at = from;
     let mut end: usize = 0;
-    let mut k: usize = 0;
-    while k < 7 {
+    for k in 0..7 {
         let h = head(input, head_at);
-        unpack_words(input, at, h, end, words);
+        unpack_slice(h, end, words, h.fill, |i| word(input, at, i));
         end = after(end, h.length);
         ends[k + 1] = end;
         at = after(at, h.kept);
         head_at = after(head_at, HEAD_WORDS);
-        k += 1;
     }
     Tables { ends, after: at }
 }
@@ -170,14 +124,18 @@ pub fn unpack(
     let bytes_head = head(input, at);
     let numbers_head = head(input, after(at, LAST_HEAD));
     let from = after(at, HEADS_WORDS);
-    unpack_bytes(input, from, bytes_head, pool);
+    unpack_slice(bytes_head, 0, pool, octet(bytes_head.fill, 0), |i| {
+        octet(word(input, from, i / 4), i % 4)
+    });
     let tables = unpack_tables(
         input,
         after(at, HEAD_WORDS),
         after(from, words_for(bytes_head.kept)),
         words,
     );
-    unpack_numbers(input, tables.after, numbers_head, numbers);
+    unpack_slice(numbers_head, 0, numbers, pair(numbers_head.fill, 0), |i| {
+        number(input, after(after(tables.after, i), i))
+    });
     let ends = tables.ends;
     Group {
         ends,

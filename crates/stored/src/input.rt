@@ -19,7 +19,7 @@ pub struct Held {
 fn word_of(a: u8, b: u8, c: u8, d: u8) -> u32
     ensures { result ≡ word_of a b c d }
 {
-    a as u32 + b as u32 * 256 + c as u32 * 65536 + d as u32 * 16777216
+    u32::from_le_bytes([a, b, c, d])
 }
 
 fn word_at(bytes: &[u8], i: usize) -> u32
@@ -41,38 +41,34 @@ fn put_words(bytes: &[u8], into: &mut [u32], from: usize)
     requires { from + length bytes.now / 4 ≤ length into.old }
     ensures { into.new ≡ words_put bytes.now from into.old }
 {
-    let mut i: usize = 0;
-    while i < bytes.len() / 4 {
+    for i in 0..bytes.len() / 4 {
         put(into, from + i, word_at(bytes, i));
-        i += 1;
     }
 }
 
 fn has_room(whole: usize, end: usize, bytes: usize) -> bool
     ensures { result ≡ room_for whole end bytes }
 {
-    if end <= whole {
-        return bytes / 4 <= whole - end;
-    }
-    false
+    end <= whole && bytes / 4 <= whole - end
 }
 
 // Reads chunks of the input behind the words that are at hand, while there is room, and answers where they end.
 fn read_words(chunk: &mut [u8], into: &mut [u32], from: usize) -> usize
     ensures { Behind into.old into.new from result }
 {
-    let mut end = from;
-    let mut left = into.len();
-    while left > 0 && has_room(into.len(), end, chunk.len()) {
+    let mut behind = from;
+    for _ in 0..into.len() {
+        if !has_room(into.len(), behind, chunk.len()) {
+            return behind;
+        }
         let n = io::read_full(IN, chunk);
         if n == 0 {
-            return end;
+            return behind;
         }
-        put_words(&chunk[..n], into, end);
-        end += n / 4;
-        left -= 1;
+        put_words(&chunk[..n], into, behind);
+        behind += n / 4;
     }
-    end
+    behind
 }
 
 // Moves so many words to the front.
@@ -80,21 +76,14 @@ fn move_to_front(words: &mut [u32], from: usize, count: usize)
     requires { from + count ≤ length words.old }
     ensures { words.new ≡ moved words.old from count }
 {
-    let mut i: usize = 0;
-    while i < count {
-        words[i] = words[from + i];
-        i += 1;
-    }
+    words.copy_within(from..from + count, 0);
 }
 
 // Sees that a whole group is at hand, where the input has one; a place past its end stays there.
 pub fn refill(chunk: &mut [u8], input: &mut [u32], at: usize, end: usize) -> Held
     ensures { Refilled input.old input.new at end result }
 {
-    if at > end {
-        return Held { at, end };
-    }
-    if end > input.len() {
+    if at > end || end > input.len() {
         return Held { at, end };
     }
     let count = end - at;

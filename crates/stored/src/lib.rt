@@ -37,49 +37,19 @@ pub fn number(input: &[u32], at: usize) -> u64
     pair(word(input, at, 0), word(input, at, 1))
 }
 
-// The words between two places, or none where they run past the end.
-pub fn part(words: &[u32], start: usize, end: usize) -> &[u32]
-    ensures { result.now ≡ between words.now start end }
+// The elements between two places, or none where they run past the end.
+#[tactic(auto, using(crate::proofs::Places::between_in, crate::proofs::Places::between_past, crate::proofs::Places::between_back))]
+pub fn part<T>(elements: &[T], start: usize, end: usize) -> &[T]
+    ensures { result.now ≡ between elements.now start end }
 {
-    if end < start {
-        return &words[..0];
-    }
-    if words.len() < end {
-        return &words[..0];
-    }
-    &words[start..end]
+    elements.get(start..end).unwrap_or(&[])
 }
 
-// The first numbers, or none where there are not so many.
-pub fn first_numbers(numbers: &[u64], count: usize) -> &[u64]
-    ensures { result.now ≡ between numbers.now 0 count }
+// Stores an element at a place; a place past the end takes none.
+pub fn put<T: Copy>(elements: &mut [T], at: usize, element: T)
+    ensures { elements.new ≡ set elements.old at element }
 {
-    if count <= numbers.len() {
-        return &numbers[0..count];
-    }
-    &numbers[..0]
-}
-
-pub fn put(words: &mut [u32], at: usize, word: u32)
-    ensures { words.new ≡ set words.old at word }
-{
-    if at < words.len() {
-        words[at] = word;
-    }
-}
-
-pub fn put_byte(bytes: &mut [u8], at: usize, byte: u8)
-    ensures { bytes.new ≡ set bytes.old at byte }
-{
-    if at < bytes.len() {
-        bytes[at] = byte;
-    }
-}
-
-pub fn put_number(numbers: &mut [u64], at: usize, number: u64)
-    ensures { numbers.new ≡ set numbers.old at number }
-{
-    if at < numbers.len() {
-        numbers[at] = number;
+    if at < elements.len() {
+        elements[at] = element;
     }
 }

@@ -1,3 +1,4 @@
 pub mod Faults
 pub mod Facts
 mod Loops
+pub mod Numbers

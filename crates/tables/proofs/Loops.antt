@@ -9,9 +9,7 @@ use lib.ListN.{length}
 use Rattle.layout.specs.Layout.{node_words, schema_words, node_count, schema_count}
 use Rattle.layout.specs.Walk.{first}
 use Rattle.layout.proofs.Walk.{first_stop, first_end}
-use Rattle.tables.specs.declared.check.Fault.{Fault}
-use Rattle.tables.specs.declared.check.Fault.TheVariants.{Bad}
-use Rattle.tables.specs.Found.{bad_or}
+use Rattle.tables.specs.Found.{Fault, Bad, bad_or}
 
 module _ (table : ℕ) (f : ℕ → Bool) (n : ℕ) (rest : Fault) (i : ℕ) (inv : first f i n ≡ first f 0 n) where
   pub bad_here : i < n → f i ≡ false → Bad table i ≡ bad_or table f n rest

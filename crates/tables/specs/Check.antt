@@ -3,8 +3,7 @@
 use Rattle.std.specs.Prelude.{ℕ, zero, suc, ◌/◌, ◌%◌, List, Bool, length, leb, ltb, eqb}
 use Rattle.text.specs.Choice.{both, pick}
 use Rattle.text.specs.Text.{text_words, text_count}
-use Rattle.tables.specs.declared.check.Fault.{Fault}
-use Rattle.tables.specs.declared.check.Fault.TheVariants.{Sound, Bad}
+use Rattle.tables.specs.Found.{Fault, Sound, Bad, or_else}
 use Rattle.records.specs.declared.Counts.{Counts}
 use Rattle.layout.specs.Layout.{Tables, NONE, node_words, note_words, schema_words, registry_words, pattern_words, most_bytes, most_texts, most_nodes, most_notes, most_schemas, most_entries, most_patterns, most_links, most_numbers, node_count, note_count, schema_count, entry_count, pattern_count}
 use Rattle.layout.specs.Walk.{first}
@@ -70,14 +69,6 @@ records_from z T table (suc n) =
 
 unfoldable pub records_fault : Tables → Fault
 records_fault T = records_from (counts_of T) T 1 6
-
--- what a fault makes of its table and its record; without one, the rest
-abbrev pub on_fault : {A : Type 0} → Fault → (ℕ → ℕ → A) → A → A
-on_fault Sound bad rest = rest
-on_fault (Bad table n) bad rest = bad table n
-
-abbrev pub or_else : Fault → Fault → Fault
-or_else f rest = on_fault f (λ table n. Bad table n) rest
 
 -- the sizes where every table is lent whole
 unfoldable pub lent_fault : Tables → Fault

@@ -1,7 +1,7 @@
 // The check of all eight tables: sizes, then records; the first bad record of the first bad table.
-ghost use Rattle.std.specs.Prelude.{◌≡◌, ◌<◌, ◌≤◌, length};
-ghost use Rattle.layout.specs.Layout.{tables};
-ghost use Rattle.records.specs.Records.{counts_in, counts_of};
+ghost use Rattle.std.specs.Prelude.{◌≡◌, ◌<◌};
+ghost use Rattle.layout.specs.Lent.{tables_of};
+ghost use Rattle.records.specs.Records.{counts_in};
 ghost use Rattle.tables.specs.Check.{
   whole_size,
   used_size,
@@ -12,153 +12,113 @@ ghost use Rattle.tables.specs.Check.{
   tables_fault,
 };
 ghost use Rattle.tables.specs.Facts.{Sized};
+ghost use Rattle.tables.specs.Found.{Sound};
 
 use crate::walk;
-use layout::words;
+use error::Failure;
 use layout::words::NONE;
-use lists::both;
+use layout::{Tables, words};
 use records::Counts;
-
-// What the check finds: nothing, or a table and its first bad record, NONE for a size.
-#[derive(Clone, Copy)]
-pub enum Fault {
-    Sound,
-    Bad { table: u32, record: u32 },
-}
+use text::Texts;
 
 // Whether a table of that many words is neither ragged nor too long.
+#[tactic(auto, unfolding(crate::specs::Check::whole_size))]
 fn whole_size(words: usize, width: usize, most: usize) -> bool
     requires { 0 < width }
     ensures { result ≡ whole_size words width most }
 {
-    both(words % width == 0, words / width <= most)
+    words % width == 0 && words / width <= most
 }
 
 // Whether a used count is at most the limit and the whole records lent.
+#[tactic(auto, unfolding(crate::specs::Check::used_size))]
 pub fn used_size(records: usize, most: usize, used: usize) -> bool
     ensures { result ≡ used_size records most used }
 {
-    both(used <= most, used <= records)
+    used <= most && used <= records
 }
 
-fn size_or(good: bool, table: u32, rest: Fault) -> Fault
-    ensures { result ≡ size_or good table rest }
+// A size that is bad names its table alone.
+#[tactic(auto, unfolding(crate::specs::Check::size_or))]
+fn size_is(good: bool, table: u32) -> Result<(), Failure>
+    ensures { result ≡ size_or good table Sound }
 {
     if good {
-        rest
+        Ok(())
     } else {
-        Fault::Bad {
+        Err(Failure::BadTable {
             table,
             record: NONE,
-        }
+        })
     }
 }
 
-fn texts_size(pool: &[u8], texts: &[u32]) -> bool
-    ensures { result ≡ texts_size pool.now texts.now }
+#[tactic(auto, unfolding(crate::specs::Check::texts_size))]
+fn texts_size(texts: &Texts) -> bool
+    ensures { result ≡ texts_size texts.now.pool.now texts.now.records.now }
 {
-    both(
-        whole_size(texts.len(), text::TEXT_WORDS, words::MOST_TEXTS),
-        pool.len() <= words::MOST_BYTES,
-    )
+    whole_size(texts.records.len(), text::TEXT_WORDS, words::MOST_TEXTS)
+        && texts.pool.len() <= words::MOST_BYTES
 }
 
 // The sizes of tables 1 to 8 in order; those of 3, 4 and 7 are judged by the caller, whole or by used counts.
 pub fn check_sizes(
-    pool: &[u8],
-    texts: &[u32],
-    nodes: &[u32],
-    registry: &[u32],
-    patterns: &[u32],
-    numbers: &[u64],
+    t: &Tables,
     notes_fit: bool,
     schemas_fit: bool,
     links_fit: bool,
-) -> Fault
-    ensures { result ≡ sizes_fault pool.now texts.now nodes.now registry.now patterns.now numbers.now notes_fit schemas_fit links_fit }
+) -> Result<(), Failure>
+    ensures { let T = tables_of t.now in
+        result ≡ sizes_fault T.pool T.texts T.nodes T.registry T.patterns T.numbers notes_fit
+        schemas_fit links_fit }
 {
-    let numbers_fit = numbers.len() <= words::MOST_NUMBERS;
-    let patterns_fit = whole_size(patterns.len(), words::PATTERN_WORDS, words::MOST_PATTERNS);
-    let registry_fit = whole_size(registry.len(), words::REGISTRY_WORDS, words::MOST_ENTRIES);
-    let nodes_fit = whole_size(nodes.len(), words::NODE_WORDS, words::MOST_NODES);
-    let from8 = size_or(numbers_fit, 8, Fault::Sound);
-    let from7 = size_or(links_fit, 7, from8);
-    let from6 = size_or(patterns_fit, 6, from7);
-    let from5 = size_or(registry_fit, 5, from6);
-    let from4 = size_or(schemas_fit, 4, from5);
-    let from3 = size_or(notes_fit, 3, from4);
-    let from2 = size_or(nodes_fit, 2, from3);
-    size_or(texts_size(pool, texts), 1, from2)
+    let nodes_fit = whole_size(t.nodes.len(), words::NODE_WORDS, words::MOST_NODES);
+    let registry_fit = whole_size(t.registry.len(), words::REGISTRY_WORDS, words::MOST_ENTRIES);
+    let patterns_fit = whole_size(t.patterns.len(), words::PATTERN_WORDS, words::MOST_PATTERNS);
+    size_is(texts_size(&t.texts), 1)?;
+    size_is(nodes_fit, 2)?;
+    size_is(notes_fit, 3)?;
+    size_is(schemas_fit, 4)?;
+    size_is(registry_fit, 5)?;
+    size_is(patterns_fit, 6)?;
+    size_is(links_fit, 7)?;
+    size_is(t.numbers.len() <= words::MOST_NUMBERS, 8)
 }
 
-fn counts(texts: &[u32], nodes: &[u32], notes: &[u32], schemas: &[u32], numbers: &[u64]) -> Counts
-    ensures { result ≡ counts_in texts.now nodes.now notes.now schemas.now numbers.now }
+fn counts(t: &Tables) -> Counts
+    ensures { let T = tables_of t.now in
+        result ≡ counts_in T.texts T.nodes T.notes T.schemas T.numbers }
 {
     Counts {
-        texts: text::text_count(texts),
-        nodes: words::node_count(nodes),
-        notes: words::note_count(notes),
-        schemas: words::schema_count(schemas),
-        numbers: numbers.len(),
+        texts: t.texts.count(),
+        nodes: t.node_count(),
+        notes: t.note_count(),
+        schemas: t.schema_count(),
+        numbers: t.numbers.len(),
     }
 }
 
 // The records of tables 1 to 6, once the sizes are good.
-fn check_records(
-    pool: &[u8],
-    texts: &[u32],
-    nodes: &[u32],
-    notes: &[u32],
-    schemas: &[u32],
-    registry: &[u32],
-    patterns: &[u32],
-    links: &[u32],
-    numbers: &[u64],
-) -> Fault
-    requires { Sized (tables pool.now texts.now nodes.now notes.now schemas.now registry.now patterns.now links.now numbers.now) }
-    ensures { result ≡ records_fault (tables pool.now texts.now nodes.now notes.now schemas.now registry.now patterns.now links.now numbers.now) }
+fn check_records(t: &Tables) -> Result<(), Failure>
+    requires { Sized (tables_of t.now) }
+    ensures { result ≡ records_fault (tables_of t.now) }
 {
-    let z = counts(texts, nodes, notes, schemas, numbers);
-    let from6 = walk::patterns_fault(z, patterns, Fault::Sound);
-    let from5 = walk::registry_fault(z, registry, from6);
-    let from4 = walk::schemas_fault(z, pool, texts, links, schemas, from5);
-    let from3 = walk::notes_fault(notes, from4);
-    let from2 = walk::nodes_fault(z, links, nodes, from3);
-    walk::texts_fault(pool, texts, from2)
+    let z = counts(t);
+    walk::texts_fault(&t.texts)?;
+    walk::nodes_fault(z, t)?;
+    walk::notes_fault(t)?;
+    walk::schemas_fault(z, t)?;
+    walk::registry_fault(z, t)?;
+    walk::patterns_fault(z, t)
 }
 
 // The whole check: answer 20's table and record, or nothing.
-pub fn check_tables(
-    pool: &[u8],
-    texts: &[u32],
-    nodes: &[u32],
-    notes: &[u32],
-    schemas: &[u32],
-    registry: &[u32],
-    patterns: &[u32],
-    links: &[u32],
-    numbers: &[u64],
-) -> Fault
-    ensures { result ≡ tables_fault (tables pool.now texts.now nodes.now notes.now schemas.now registry.now patterns.now links.now numbers.now) }
+pub fn check_tables(t: &Tables) -> Result<(), Failure>
+    ensures { result ≡ tables_fault (tables_of t.now) }
 {
-    let notes_fit = whole_size(notes.len(), words::NOTE_WORDS, words::MOST_NOTES);
-    let schemas_fit = whole_size(schemas.len(), words::SCHEMA_WORDS, words::MOST_SCHEMAS);
-    let links_fit = links.len() <= words::MOST_LINKS;
-    let sizes = check_sizes(
-        pool,
-        texts,
-        nodes,
-        registry,
-        patterns,
-        numbers,
-        notes_fit,
-        schemas_fit,
-        links_fit,
-    );
-    match sizes {
-        Fault::Bad { table, record } => Fault::Bad { table, record },
-        Fault::Sound => check_records(
-            pool, texts, nodes, notes, schemas, registry, patterns, links, numbers,
-        ),
-    }
+    let notes_fit = whole_size(t.notes.len(), words::NOTE_WORDS, words::MOST_NOTES);
+    let schemas_fit = whole_size(t.schemas.len(), words::SCHEMA_WORDS, words::MOST_SCHEMAS);
+    let links_fit = t.links.len() <= words::MOST_LINKS;
+    check_sizes(t, notes_fit, schemas_fit, links_fit)?;
+    check_records(t)
 }

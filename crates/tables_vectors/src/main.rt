@@ -6,48 +6,23 @@
 // there are and these, each a place and a word.
 #![tactic(auto)]
 
+use error::Failure;
+use layout::Tables;
 use stored::report;
-use tables::check::Fault;
+use tables::check::check_tables;
 
 const OUT: i32 = 1;
 
-#[derive(Clone, Copy)]
-struct Read {
-    value: u32,
-    after: usize,
+// The numbers of a text, one after the other; past the last each is 0.
+#[derive(Drop)]
+struct Numbers<'a> {
+    rest: &'a [u8],
 }
 
-#[derive(Clone, Copy)]
-struct Span {
-    length: u32,
-    after: usize,
-}
-
-// The nine slices stand one after the other in one buffer: slice k ends at ends[k + 1].
-#[derive(Clone, Copy)]
-struct Layout {
-    ends: [usize; 10],
-    after: usize,
-}
-
-#[derive(Clone, Copy)]
+#[derive(Clone, Copy, PartialEq)]
 struct Answer {
     table: u32,
     record: u32,
-}
-
-#[derive(Clone, Copy)]
-struct Met {
-    expected: Answer,
-    found: Answer,
-    after: usize,
-}
-
-fn is_digit(b: u8) -> bool {
-    if b < b'0' {
-        return false;
-    }
-    b <= b'9'
 }
 
 // The number with one digit more; no number of the input passes a word.
@@ -55,132 +30,105 @@ fn longer(value: u32, digit: u8) -> u32 {
     ((value as u64 * 10 + (digit % 16) as u64) % 4294967296) as u32
 }
 
-fn skip(text: &[u8], from: usize) -> usize {
-    let mut at = from;
-    while at < text.len() && !is_digit(text[at]) {
-        at += 1;
+impl<'a> Numbers<'a> {
+    fn take(&mut self) -> u32 {
+        let mut value = 0;
+        let mut begun = false;
+        while let Some((byte, behind)) = self.rest.split_first() {
+            if byte.is_ascii_digit() {
+                value = longer(value, *byte);
+                begun = true;
+            } else if begun {
+                return value;
+            }
+            self.rest = behind;
+        }
+        value
     }
-    at
 }
 
-fn digits(text: &[u8], from: usize) -> Read {
-    let mut at = from;
-    let mut value: u32 = 0;
-    while at < text.len() && is_digit(text[at]) {
-        value = longer(value, text[at]);
-        at += 1;
+fn read_words(numbers: &mut Numbers, into: &mut [u32], count: u32) {
+    for i in 0..count {
+        let word = numbers.take();
+        stored::put(into, i as usize, word);
     }
-    Read { value, after: at }
-}
-
-fn number(text: &[u8], from: usize) -> Read {
-    digits(text, skip(text, from))
-}
-
-fn read_words(text: &[u8], from: usize, into: &mut [u32], count: u32) -> usize {
-    let mut at = from;
-    let mut i: u32 = 0;
-    while i < count {
-        let word = number(text, at);
-        stored::put(into, i as usize, word.value);
-        at = word.after;
-        i += 1;
-    }
-    at
 }
 
 fn repeat(words: &mut [u32], period: u32, until: u32) {
-    let mut i = period;
-    while i < until {
+    for i in period..until {
         let word = text::word(words, (i - period) as usize);
         stored::put(words, i as usize, word);
-        i += 1;
     }
 }
 
-fn patch(text: &[u8], from: usize, words: &mut [u32], count: u32) -> usize {
-    let mut at = from;
-    let mut i: u32 = 0;
-    while i < count {
-        let place = number(text, at);
-        let word = number(text, place.after);
-        stored::put(words, place.value as usize, word.value);
-        at = word.after;
-        i += 1;
-    }
-    at
-}
-
-fn slice(text: &[u8], from: usize, into: &mut [u32]) -> Span {
-    let length = number(text, from);
-    let period = number(text, length.after);
-    let read = read_words(text, period.after, into, period.value);
-    repeat(into, period.value, length.value);
-    let patches = number(text, read);
-    let after = patch(text, patches.after, into, patches.value);
-    Span {
-        length: length.value,
-        after,
+fn patch(numbers: &mut Numbers, words: &mut [u32], count: u32) {
+    for _ in 0..count {
+        let place = numbers.take();
+        let word = numbers.take();
+        stored::put(words, place as usize, word);
     }
 }
 
-fn slice_at(text: &[u8], from: usize, buffer: &mut [u32], start: usize) -> Span {
+// How long the next slice is.
+fn slice(numbers: &mut Numbers, into: &mut [u32]) -> u32 {
+    let length = numbers.take();
+    let period = numbers.take();
+    read_words(numbers, into, period);
+    repeat(into, period, length);
+    let patches = numbers.take();
+    patch(numbers, into, patches);
+    length
+}
+
+fn slice_at(numbers: &mut Numbers, buffer: &mut [u32], start: usize) -> u32 {
     if start <= buffer.len() {
-        return slice(text, from, &mut buffer[start..]);
+        return slice(numbers, &mut buffer[start..]);
     }
-    Span {
-        length: 0,
-        after: from,
-    }
+    0
 }
 
-fn slices(text: &[u8], from: usize, buffer: &mut [u32]) -> Layout {
+// The nine slices stand one after the other in one buffer: slice k ends at ends[k + 1].
+fn slices(numbers: &mut Numbers, buffer: &mut [u32]) -> [usize; 10] {
     let mut ends = [0usize; 10];
-    let mut at = from;
     let mut end: usize = 0;
-    let mut k: usize = 1;
-    while k < 10 {
-        let s = slice_at(text, at, buffer, end);
-        end = stored::after(end, s.length);
+    for k in 1..10 {
+        let length = slice_at(numbers, buffer, end);
+        end = stored::after(end, length);
         ends[k] = end;
-        at = s.after;
-        k += 1;
     }
-    Layout { ends, after: at }
+    ends
 }
 
 fn narrow(words: &[u32], pool: &mut [u8]) {
-    let mut i = 0;
-    while i < words.len() && i < pool.len() {
-        pool[i] = (words[i] % 256) as u8;
-        i += 1;
+    for (byte, word) in pool.iter_mut().zip(words) {
+        *byte = (*word % 256) as u8;
     }
-}
-
-fn wide(word: u32) -> u64 {
-    word as u64
 }
 
 fn widen(words: &[u32], numbers: &mut [u64]) {
-    let mut i = 0;
-    while i < words.len() && i < numbers.len() {
-        numbers[i] = wide(words[i]);
-        i += 1;
+    for (number, word) in numbers.iter_mut().zip(words) {
+        *number = u64::from(*word);
     }
 }
 
-fn answer_of(fault: Fault) -> Answer {
-    match fault {
-        Fault::Sound => Answer {
+fn answer_of(checked: Result<(), Failure>) -> Answer {
+    match checked {
+        Ok(()) => Answer {
             table: 0,
             record: 0,
         },
-        Fault::Bad { table, record } => Answer { table, record },
+        Err(failure) => {
+            let answer = error::failed(failure);
+            Answer {
+                table: answer.table,
+                record: answer.place,
+            }
+        }
     }
 }
 
 fn find_answer(pool: &[u8], words: &[u32], numbers: &[u64], ends: [usize; 10]) -> Answer {
-    answer_of(tables::check::check_tables(
+    let tables = Tables::new(
         pool,
         stored::part(words, ends[1], ends[2]),
         stored::part(words, ends[2], ends[3]),
@@ -190,7 +138,8 @@ fn find_answer(pool: &[u8], words: &[u32], numbers: &[u64], ends: [usize; 10]) -
         stored::part(words, ends[6], ends[7]),
         stored::part(words, ends[7], ends[8]),
         numbers,
-    ))
+    );
+    answer_of(check_tables(&tables))
 }
 
 // The check's answer for slices that stand in one buffer.
@@ -202,64 +151,48 @@ fn find_all(words: &[u32], pool: &mut [u8], numbers: &mut [u64], ends: [usize; 1
     find_answer(
         text::part(pool, 0, bytes.len()),
         words,
-        stored::first_numbers(numbers, values.len()),
+        stored::part(numbers, 0, values.len()),
         ends,
     )
 }
 
-fn with_expected(text: &[u8], from: usize, found: Answer) -> Met {
-    let table = number(text, from);
-    let record = number(text, table.after);
-    Met {
-        expected: Answer {
-            table: table.value,
-            record: record.value,
-        },
-        found,
-        after: record.after,
-    }
+fn expected(numbers: &mut Numbers) -> Answer {
+    let table = numbers.take();
+    let record = numbers.take();
+    Answer { table, record }
 }
 
+// Whether a case is answered as it has to be; where it is not, a line says so.
 fn run_case(
-    text: &[u8],
-    from: usize,
+    case: u32,
+    text: &mut Numbers,
     words: &mut [u32],
     pool: &mut [u8],
     numbers: &mut [u64],
-) -> Met {
-    let s = slices(text, from, words);
-    let ends = s.ends;
+) -> bool {
+    let ends = slices(text, words);
     let found = find_all(words, pool, numbers, ends);
-    with_expected(text, s.after, found)
-}
-
-// How many are wrong, this case included.
-fn judge(number: u32, met: Met, wrong: u32) -> u32 {
-    let expected = met.expected;
-    let found = met.found;
-    if expected.table == found.table && expected.record == found.record {
-        return wrong;
+    let expected = expected(text);
+    if expected == found {
+        return true;
     }
     io::write_all(OUT, b"case ");
-    report::print(number, b": expected ");
+    report::print(case, b": expected ");
     report::print(expected.table, b" ");
     report::print(expected.record, b", found ");
     report::print(found.table, b" ");
     report::print(found.record, b"\n");
-    std::num::wrapping_add_u32(wrong, 1)
+    false
 }
 
 fn run_all(text: &[u8], words: &mut [u32], pool: &mut [u8], numbers: &mut [u64]) {
-    let count = number(text, 0);
-    let cases = count.value;
-    let mut at = count.after;
+    let mut text = Numbers { rest: text };
+    let cases = text.take();
     let mut wrong: u32 = 0;
-    let mut i: u32 = 0;
-    while i < cases {
-        let met = run_case(text, at, words, pool, numbers);
-        at = met.after;
-        i += 1;
-        wrong = judge(i, met, wrong);
+    for i in 0..cases {
+        if !run_case(i + 1, &mut text, words, pool, numbers) {
+            wrong += 1;
+        }
     }
     report::print(cases, b" cases, ");
     report::print(wrong, b" wrong\n");

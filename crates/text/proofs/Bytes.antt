@@ -2,12 +2,12 @@
 use mathlib.Core.Path.{◌≡◌, refl, sym, ap, ◌∙◌}
 use mathlib.Core.Bool.{true, false}
 use mathlib.Core.List.{List, [], ◌∷◌}
-use Prim.Native.Nat.{ℕ, suc, ◌<◌}
-use native.Mathlib.Omega.{arith}
+use Prim.Native.Nat.{ℕ}
 use lib.ListN.{length, get_or}
 use lib.Dec.{eqb}
+use lib.Pointwise.{pointwise}
 use borrow.Author.Tests.{eq-eqb, eqb-true}
-use Rattle.text.specs.Choice.{clash, both-holds, both_left, both_right, same_test, not-holds}
+use Rattle.text.specs.Choice.{both, clash, both-holds, both_left, both_right, same_test, not-holds}
 use Rattle.text.specs.Text.{text_of, same_bytes, same_text}
 
 pub same_refl : (a : List ℕ) → same_bytes a a ≡ true
@@ -38,15 +38,15 @@ same_sym a b =
 pub same_trans : (a b c : List ℕ) → same_bytes a b ≡ true → same_bytes b c ≡ true → same_bytes a c ≡ true
 same_trans a b c s t = same_complete a c (same_sound a b s ∙ same_sound b c t)
 
--- lists of one length that agree at each place are the same, and where two differ they are not
-pub same_yes : (a b : List ℕ) → length a ≡ length b → ((k : ℕ) → k < length a → get_or a k 0 ≡ get_or b k 0) → same_bytes a b ≡ true
+-- what `==` of two slices answers
+pub same_pointwise : (a b : List ℕ) → pointwise eqb a b ≡ same_bytes a b
 unfolding same_bytes
-same_yes [] [] e h = refl
-same_yes [] (y ∷ b) e h = let z : ◌≡◌ {A = ℕ} 0 1 = cc in absurd (omega arith)
-same_yes (x ∷ a) [] e h = let z : ◌≡◌ {A = ℕ} 0 1 = cc in absurd (omega arith)
-same_yes (x ∷ a) (y ∷ b) e h =
-    both-holds (eq-eqb x y (h 0 (omega arith))) (same_yes a b (omega arith) (λ k l. h (suc k) (omega arith)))
+same_pointwise [] [] = refl
+same_pointwise [] (y ∷ b) = refl
+same_pointwise (x ∷ a) [] = refl
+same_pointwise (x ∷ a) (y ∷ b) = ap (both (eqb x y)) (same_pointwise a b)
 
+-- lists that differ in length, or at a place, are not the same
 pub same_no_length : (a b : List ℕ) → (length a ≡ length b → ⊥) → same_bytes a b ≡ false
 same_no_length a b h = same_differs a b (λ e. h (ap length e))
 

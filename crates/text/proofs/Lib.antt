@@ -1,5 +1,5 @@
 pub mod Count
 pub mod Bytes
-pub mod Texts
+pub mod Parts
 pub mod Octet
 pub mod Grammar

@@ -1,19 +1,23 @@
 -- The walk along octets, a step at a time. Assumes nothing.
 use mathlib.Core.Path.{◌≡◌, refl, sym, ap, subst, ◌∙◌}
-use mathlib.Core.Bool.{Bool, true}
+use mathlib.Core.Bool.{Bool, true, false, cond, not}
 use mathlib.Core.List.{List, [], ◌∷◌}
 use mathlib.Core.Logic.{⊎_elim}
 use Prim.Native.Nat.{ℕ, zero, suc, ◌+◌, ◌-◌, ◌<◌, ◌≤◌}
 use native.Mathlib.Nat.{eq-or-lt_of_le}
-use native.Mathlib.Numerals.{add-one}
 use native.Mathlib.Omega.{arith}
-use lib.ListN.{length, get_or, drop}
+use native.Mathlib.Numerals.{add-one}
 use lib.Seq.{drop-cons}
+use Rattle.std.proofs.lemmas.List.{take_rest}
+use lib.ListN.{length, get_or, take, drop, drop_of_length-le}
 use lib.Dec.{eqb}
-use borrow.Author.Tests.{eqb-true}
+use borrow.Author.Tests.{eqb-true, ltb-true}
+use Rattle.std.specs.List.{prefix_len, count_by}
+use Rattle.std.specs.Char.{is_ascii}
+use Rattle.std.proofs.lemmas.List.Recursion.{is_count_by}
 use Rattle.text.specs.declared.utf8.Wait.{Wait}
-use Rattle.text.specs.Choice.{both, both_left, both_right, pick_all}
-use Rattle.text.specs.Utf8.{From, wait, bad, start, lead_of, step_of, run, within, point_of, code_points_of}
+use Rattle.text.specs.Choice.{both, both_left, both_right, pick, pick_all}
+use Rattle.text.specs.Utf8.{From, wait, bad, start, lead_of, step_of, run, within, utf8_of, point_of, code_points_of}
 
 -- a test that antt computes at each number from lo on, n of them, holds at each
 abbrev every : (ℕ → Bool) → ℕ → ℕ → Bool
@@ -89,21 +93,51 @@ pub lead_f5 : {b : ℕ} → From 0xF5 0xFF b → lead_of b ≡ bad
 unfolding lead_of
 lead_f5 = lead_at 0xF5 0xFF bad refl
 
+-- what follows each first octet
+pub ruleset leads = (lead_00, lead_80, lead_c2, lead_e0, lead_e1, lead_ed, lead_ee, lead_f0, lead_f1, lead_f4, lead_f5)
+
+-- ASCII leaves the walk where it began
+pub run_ascii : (b : ℕ) (s : List ℕ) → b ≤ 0x7F → run start (b ∷ s) ≡ run start s
+unfolding step_of
+run_ascii b s p = ap (λ (w : Wait). run w s) (lead_00 (omega arith, p))
+
+in_front : (b : ℕ) (s : List ℕ) (n : ℕ) (t : Bool) → t ≡ is_ascii b → run start (drop n s) ≡ run start s → run start (drop (cond t (1 + n) 0) (b ∷ s)) ≡ run start (b ∷ s)
+in_front b s n true e h =
+    let k : 1 + n ≡ suc n = omega arith in
+    rw k (h ∙ sym (run_ascii b s (omega (arith, ltb-true b 128 (sym e)))))
+in_front b s n false e h = refl
+
+-- and so does all of it in front
+pub run_ascii_front : (s : List ℕ) → run start (drop (prefix_len is_ascii s) s) ≡ run start s
+run_ascii_front [] = refl
+run_ascii_front (b ∷ s) = in_front b s (prefix_len is_ascii s) (is_ascii b) refl (run_ascii_front s)
+
 -- one more turn along a list
 pub run_more : (w : Wait) (s : List ℕ) (i : ℕ) → i < length s → run w (drop i s) ≡ run (step_of w (get_or s i 0)) (drop (i + 1) s)
 run_more w s i h = rw (add-one i, drop-cons s i 0 h)
 
--- ASCII leaves the walk where it began
-pub run_ascii : (s : List ℕ) (i : ℕ) → i < length s → get_or s i 0 ≤ 0x7F → run start (drop (i + 1) s) ≡ run start (drop i s)
-unfolding step_of
-run_ascii s i h p =
-    sym (run_more start s i h ∙ ap (λ (w : Wait). run w (drop (i + 1) s)) (lead_00 (omega arith, p)))
+-- the code's walk, past a ASCII octets in front, to the end of what is left of them
+pub walked : (s : List ℕ) (a i : ℕ) (w : Wait) → a ≡ prefix_len is_ascii s → length (take (length s - a) (drop a s)) ≤ i
+    → run w (drop i (take (length s - a) (drop a s))) ≡ run start (take (length s - a) (drop a s)) → eqb w.left 0 ≡ utf8_of s
+unfolding utf8_of
+walked s a i w e h all =
+    let q : w ≡ run start s =
+    ap (run w) (sym (drop_of_length-le (take (length s - a) (drop a s)) h))
+    ∙ all
+    ∙ ap (run start) (take_rest s a ∙ ap (λ (n : ℕ). drop n s) e)
+    ∙ run_ascii_front s in
+    rw q
 
-pub points_more : (s : List ℕ) (i : ℕ) → i < length s → code_points_of (drop i s) ≡ point_of (get_or s i 0) + code_points_of (drop (i + 1) s)
-unfolding code_points_of
-points_more s i h = rw (add-one i, drop-cons s i 0 h)
+-- the code's count
+pub starts_counted : (s : List ℕ) → count_by (λ b. not (within 0x80 0xBF b)) s ≡ code_points_of s
+unfolding code_points_of point_of
+starts_counted s = sym (is_count_by code_points_of (λ b. not (within 0x80 0xBF b)) refl (λ b s. one (within 0x80 0xBF b) (code_points_of s)) s)
+  where
+    one : (t : Bool) (n : ℕ) → pick t 0 1 + n ≡ cond (not t) (1 + n) n
+    one true n = omega arith
+    one false n = refl
 
-pub point_le : (b : ℕ) → point_of b ≤ 1
+point_le : (b : ℕ) → point_of b ≤ 1
 unfolding point_of
 point_le b = pick_all (λ (n : ℕ). n ≤ 1) (within 0x80 0xBF b) 0 1 (λ t. omega arith) (λ t. omega arith)
 

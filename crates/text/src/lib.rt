@@ -3,7 +3,7 @@
 
 pub mod utf8;
 
-ghost use Rattle.std.specs.Prelude.{◌≡◌, ◌<◌, length, get_or};
+ghost use Rattle.std.specs.Prelude.{◌≡◌, ◌<◌, ◌^◌, length, get_or};
 ghost use Rattle.text.specs.Text.{
   text_words,
   fits_in,
@@ -28,6 +28,7 @@ const START: usize = 0;
 
 const LENGTH: usize = 1;
 
+// A word as a place: the cast under a name, which closures and clauses take as a function.
 pub fn wide(x: u32) -> usize
     ensures { result ≡ x }
 {
@@ -37,70 +38,21 @@ pub fn wide(x: u32) -> usize
 pub fn word(words: &[u32], i: usize) -> u32
     ensures { result ≡ get_or words.now i 0 }
 {
-    if i < words.len() {
-        return words[i];
-    }
-    0
+    words.get(i).copied().unwrap_or(0)
 }
 
+// The same of a number: one function for both would take the absent element as an argument at each call.
 pub fn number_word(words: &[u64], i: usize) -> u64
     ensures { result ≡ get_or words.now i 0 }
 {
-    if i < words.len() {
-        return words[i];
-    }
-    0
-}
-
-// How many whole records the table of texts holds.
-pub fn text_count(texts: &[u32]) -> usize
-    ensures { result ≡ text_count texts.now }
-{
-    texts.len() / TEXT_WORDS
-}
-
-fn text_word(texts: &[u32], n: usize, k: usize) -> usize
-    requires { k < text_words }
-    ensures { result ≡ text_word texts.now n k }
-{
-    if n < text_count(texts) {
-        return wide(texts[TEXT_WORDS * n + k]);
-    }
-    0
-}
-
-// Where text n starts in the pool.
-pub fn text_start(texts: &[u32], n: usize) -> usize
-    ensures { result ≡ text_start texts.now n }
-{
-    text_word(texts, n, START)
-}
-
-// How many bytes text n has.
-pub fn text_length(texts: &[u32], n: usize) -> usize
-    ensures { result ≡ text_length texts.now n }
-{
-    text_word(texts, n, LENGTH)
+    words.get(i).copied().unwrap_or(0)
 }
 
 // Whether len elements from start lie within whole of them; the sum is not taken, so it cannot wrap.
 fn fits(whole: usize, start: usize, len: usize) -> bool
     ensures { result ≡ fits_in whole start len }
 {
-    if start <= whole {
-        return len <= whole - start;
-    }
-    false
-}
-
-// Whether there is a text n, and its record lies within the pool.
-pub fn text_fits(pool: &[u8], texts: &[u32], n: usize) -> bool
-    ensures { result ≡ text_fits pool.now texts.now n }
-{
-    if n < text_count(texts) {
-        return fits(pool.len(), text_start(texts, n), text_length(texts, n));
-    }
-    false
+    start <= whole && len <= whole - start
 }
 
 // The len bytes of s from start, or the empty part where they run past the end.
@@ -113,40 +65,73 @@ pub fn part(s: &[u8], start: usize, len: usize) -> &[u8]
     &s[..0]
 }
 
-// Text n, as that part of the pool itself.
-pub fn text<'a, 'b>(pool: &'a [u8], texts: &'b [u32], n: u32) -> &'a [u8]
-    ensures { result.now ≡ text_of pool.now texts.now n }
-{
-    part(
-        pool,
-        text_start(texts, n as usize),
-        text_length(texts, n as usize),
-    )
-}
-
 // Whether two slices hold the same bytes.
 pub fn same(a: &[u8], b: &[u8]) -> bool
     ensures { result ≡ same_bytes a.now b.now }
 {
-    if a.len() != b.len() {
-        return false;
-    }
-    let mut i = 0;
-    while i < a.len() {
-        if a[i] != b[i] {
-            return false;
-        }
-        i += 1;
-    }
-    true
+    a == b
 }
 
-// Whether two texts are the same bytes.
-pub fn same_text(pool: &[u8], texts: &[u32], m: u32, n: u32) -> bool
-    ensures { result ≡ same_text pool.now texts.now m n }
-{
-    if m == n {
-        return true;
+// The texts of a call: the pool of their bytes, and a record of two words for each.
+#[derive(Clone, Copy)]
+pub struct Texts<'a> {
+    pub pool: &'a [u8],
+    pub records: &'a [u32],
+}
+
+impl<'a> Texts<'a> {
+    // How many whole records there are.
+    pub fn count(&self) -> usize
+        ensures { result ≡ text_count self.now.records.now }
+    {
+        self.records.len() / TEXT_WORDS
     }
-    same(text(pool, texts, m), text(pool, texts, n))
+
+    fn word(&self, n: usize, k: usize) -> usize
+        requires { k < text_words }
+        ensures value { result ≡ text_word self.now.records.now n k }
+        ensures word { result < 2 ^ 32 }
+    {
+        if n < self.count() {
+            return wide(self.records[TEXT_WORDS * n + k]);
+        }
+        0
+    }
+
+    // Where text n starts in the pool.
+    pub fn start(&self, n: usize) -> usize
+        ensures { result ≡ text_start self.now.records.now n }
+    {
+        self.word(n, START)
+    }
+
+    // How many bytes text n has.
+    pub fn length(&self, n: usize) -> usize
+        ensures value { result ≡ text_length self.now.records.now n }
+        ensures word { result < 2 ^ 32 }
+    {
+        self.word(n, LENGTH)
+    }
+
+    // Whether there is a text n, and its record lies within the pool.
+    pub fn fits(&self, n: usize) -> bool
+        ensures { result ≡ text_fits self.now.pool.now self.now.records.now n }
+    {
+        n < self.count() && fits(self.pool.len(), self.start(n), self.length(n))
+    }
+
+    // Text n, as that part of the pool itself.
+    pub fn text(&self, n: u32) -> &'a [u8]
+        ensures bytes { result.now ≡ text_of self.now.pool.now self.now.records.now n }
+        ensures short { length result.now < 2 ^ 32 }
+    {
+        part(self.pool, self.start(n as usize), self.length(n as usize))
+    }
+
+    // Whether two texts are the same bytes.
+    pub fn same(&self, m: u32, n: u32) -> bool
+        ensures { result ≡ same_text self.now.pool.now self.now.records.now m n }
+    {
+        m == n || same(self.text(m), self.text(n))
+    }
 }

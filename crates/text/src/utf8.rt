@@ -1,6 +1,8 @@
 // UTF-8 by RFC 3629: a walk along the octets that knows what the next one may be, and the count of code points.
-ghost use Rattle.std.specs.Prelude.{◌≡◌, ◌≤◌, length, drop};
-ghost use Rattle.text.specs.Utf8.{wait, start, run, lead_of, step_of, utf8_of, point_of, code_points_of};
+ghost use Rattle.std.specs.Prelude.{◌≡◌, ◌≤◌, length};
+ghost use Rattle.std.specs.List.{prefix_len};
+ghost use Rattle.std.specs.Char.{is_ascii};
+ghost use Rattle.text.specs.Utf8.{wait, lead_of, step_of, utf8_of, within, code_points_of};
 
 // left more octets of a character are awaited, of which the next lies from lo to hi.
 #[derive(Clone, Copy)]
@@ -23,72 +25,45 @@ fn refused() -> Wait
     awaits(4, 1, 0)
 }
 
-// What a first octet has after it.
+// What a first octet has after it: a row for each alternative of the grammar.
+#[tactic(auto, using(crate::proofs::Octet::leads))]
 fn lead(b: u8) -> Wait
     ensures { result ≡ lead_of b }
 {
-    if b < 0x80 {
-        return awaits(0, 0, 0);
+    match b {
+        0x00..=0x7f => awaits(0, 0, 0),
+        0xc2..=0xdf => awaits(1, 0x80, 0xbf),
+        0xe0 => awaits(2, 0xa0, 0xbf),
+        0xe1..=0xec => awaits(2, 0x80, 0xbf),
+        0xed => awaits(2, 0x80, 0x9f),
+        0xee..=0xef => awaits(2, 0x80, 0xbf),
+        0xf0 => awaits(3, 0x90, 0xbf),
+        0xf1..=0xf3 => awaits(3, 0x80, 0xbf),
+        0xf4 => awaits(3, 0x80, 0x8f),
+        _ => refused(),
     }
-    if b < 0xc2 {
-        return refused();
-    }
-    if b < 0xe0 {
-        return awaits(1, 0x80, 0xbf);
-    }
-    if b == 0xe0 {
-        return awaits(2, 0xa0, 0xbf);
-    }
-    if b < 0xed {
-        return awaits(2, 0x80, 0xbf);
-    }
-    if b == 0xed {
-        return awaits(2, 0x80, 0x9f);
-    }
-    if b < 0xf0 {
-        return awaits(2, 0x80, 0xbf);
-    }
-    if b == 0xf0 {
-        return awaits(3, 0x90, 0xbf);
-    }
-    if b < 0xf4 {
-        return awaits(3, 0x80, 0xbf);
-    }
-    if b == 0xf4 {
-        return awaits(3, 0x80, 0x8f);
-    }
-    refused()
 }
 
 // What is awaited after one octet more.
+#[tactic(auto, unfolding(crate::specs::Utf8::step_of))]
 fn step(w: Wait, b: u8) -> Wait
     ensures { result ≡ step_of w b }
 {
-    let left = w.left;
-    if left == 0 {
-        return lead(b);
+    if w.left == 0 {
+        lead(b)
+    } else if w.lo <= b && b <= w.hi {
+        awaits(w.left - 1, 0x80, 0xbf)
+    } else {
+        refused()
     }
-    if b < w.lo {
-        return refused();
-    }
-    if w.hi < b {
-        return refused();
-    }
-    awaits(left - 1, 0x80, 0xbf)
 }
 
-// How many octets stand before the first that is not ASCII: after each of them the walk is where it began.
+// How many octets stand before the first that is not ASCII.
 fn ascii(s: &[u8]) -> usize
-    ensures { (result ≤ length s.now) × (run start (drop result s.now) ≡ run start s.now) }
+    ensures within { result ≤ length s.now }
+    ensures value { result ≡ prefix_len is_ascii s.now }
 {
-    let mut i = 0;
-    while i < s.len() {
-        if 0x7f < s[i] {
-            return i;
-        }
-        i += 1;
-    }
-    i
+    s.iter().take_while(|b| b.is_ascii()).count()
 }
 
 // Whether s is UTF-8.
@@ -96,36 +71,23 @@ pub fn is_utf8(s: &[u8]) -> bool
     ensures { result ≡ utf8_of s.now }
 {
     let mut w = awaits(0, 0, 0);
-    let mut i = ascii(s);
-    while i < s.len() {
-        w = step(w, s[i]);
-        i += 1;
+    // after each octet of ASCII in front the walk is where it began
+    let rest = &s[ascii(s)..];
+    for b in rest {
+        w = step(w, *b);
     }
     w.left == 0
 }
 
-// 1 for an octet that starts a code point, else 0.
-fn point(b: u8) -> usize
-    ensures { result ≡ point_of b }
+fn is_tail(b: u8) -> bool
+    ensures { result ≡ within 0x80 0xBF b }
 {
-    if b < 0x80 {
-        return 1;
-    }
-    if 0xbf < b {
-        return 1;
-    }
-    0
+    matches!(b, 0x80..=0xbf)
 }
 
-// How many code points s has.
+// How many code points s has: an octet that is no tail starts one.
 pub fn code_points(s: &[u8]) -> usize
     ensures { result ≡ code_points_of s.now }
 {
-    let mut n = 0;
-    let mut i = 0;
-    while i < s.len() {
-        n += point(s[i]);
-        i += 1;
-    }
-    n
+    s.iter().filter(|b| !is_tail(**b)).count()
 }

@@ -1,23 +1,19 @@
 // Runs RFC 3629's examples, the edges of its grammar, what its grammar leaves out, and lookups of texts: a line for each.
 #![tactic(auto)]
 
+use text::Texts;
+
 const OUT: i32 = 1;
 
 // A row: how many octets, how many code points or '-' where they are no UTF-8, then nine octets of which dots fill up the last.
 const ROW: usize = 11;
 
 fn byte(s: &[u8], i: usize) -> u8 {
-    if i < s.len() {
-        return s[i];
-    }
-    0
+    s.get(i).copied().unwrap_or(0)
 }
 
 fn value(digit: u8) -> usize {
-    if digit < b'0' {
-        return 0;
-    }
-    (digit - b'0') as usize
+    usize::from(digit.saturating_sub(b'0'))
 }
 
 fn digit(n: usize) -> u8 {
@@ -40,10 +36,8 @@ fn print_octet(b: u8) {
 }
 
 fn print_octets(s: &[u8]) {
-    let mut i = 0;
-    while i < s.len() {
-        print_octet(s[i]);
-        i += 1;
+    for b in s {
+        print_octet(*b);
     }
 }
 
@@ -59,10 +53,8 @@ fn judge(row: &[u8]) {
 }
 
 fn judge_all(rows: &[u8]) {
-    let mut n = 0;
-    while n < rows.len() / ROW {
-        judge(text::part(rows, ROW * n, ROW));
-        n += 1;
+    for row in rows.chunks_exact(ROW) {
+        judge(row);
     }
 }
 
@@ -73,21 +65,19 @@ fn print_if(ok: bool, word: &[u8]) {
 }
 
 // Text n, whether its record fits, and whether it equals text 0.
-fn look_up(pool: &[u8], texts: &[u32], n: u32) {
+fn look_up(texts: &Texts, n: u32) {
     io::print_decimal(OUT, n as u64);
     io::write_all(OUT, b" '");
-    io::write_all(OUT, text::text(pool, texts, n));
+    io::write_all(OUT, texts.text(n));
     io::write_all(OUT, b"'");
-    print_if(text::text_fits(pool, texts, n as usize), b" fits");
-    print_if(text::same_text(pool, texts, 0, n), b" same as 0");
+    print_if(texts.fits(n as usize), b" fits");
+    print_if(texts.same(0, n), b" same as 0");
     io::write_all(OUT, b"\n");
 }
 
-fn look_up_all(pool: &[u8], texts: &[u32], numbers: &[u32]) {
-    let mut i = 0;
-    while i < numbers.len() {
-        look_up(pool, texts, numbers[i]);
-        i += 1;
+fn look_up_all(texts: &Texts, numbers: &[u32]) {
+    for n in numbers {
+        look_up(texts, *n);
     }
 }
 
@@ -151,7 +141,7 @@ fn main() {
         4-\xf0\xa3\x8e\x41.....\
         5-\xf0\xa3\x8e\xb4\xb4....",
     );
-    let texts: [u32; 19] = [
+    let records: [u32; 19] = [
         // two words and two empty texts, the second at the pool's end
         0, 5, 5, 5, 5, 0, 10, 0,
         // one byte too long, and an empty one that starts past the end
@@ -163,5 +153,9 @@ fn main() {
     ];
     let numbers: [u32; 12] = [0, 1, 2, 3, 4, 5, 6, 7, 8, 9, 2147483648, 4294967295];
     // the last three are wrong numbers
-    look_up_all(b"wheelspoke", &texts, &numbers);
+    let texts = Texts {
+        pool: b"wheelspoke",
+        records: &records,
+    };
+    look_up_all(&texts, &numbers);
 }

@@ -9,11 +9,10 @@ use borrow.Author.Tests.{eq-eqb, ne_eqb, eqb-true}
 use Rattle.text.specs.Choice.{both, either, pick, both_left, both_right}
 use Rattle.error.specs.declared.Mode.{Mode}
 use Rattle.layout.specs.Layout.{Tables, node_kind, node_a, node_b, schema_kind, schema_word, properties_first, properties_count, pair_value}
-use Rattle.lookup.specs.declared.Found.{Found}
-use Rattle.lookup.specs.declared.Found.TheVariants.{At, Nothing}
+use Rattle.lookup.specs.Find.{Found}
+use Rattle.std.specs.Prelude.{Some, None}
 use Rattle.lookup.specs.Lookup.{entry_key, entry_value, property_place, property_of, answer_of_pattern}
-use Rattle.judge.specs.declared.Verdict.{Verdict}
-use Rattle.judge.specs.Judge.{is_fine, key_text, keys_verdict, before_entries, number_verdict, string_verdict, enum_verdict}
+use Rattle.judge.specs.Judge.{Verdict, is_fine, key_text, keys_verdict, before_entries, number_verdict, string_verdict, enum_verdict}
 use Rattle.schema.specs.Look.{slice, own_words}
 use Rattle.glance.specs.Glance.{Passes, PassesBut}
 use Rattle.glance.proofs.Says.{is_fine_lem}
@@ -33,7 +32,7 @@ module _ (pool texts nodes schemas links : List ℕ) (n s k : ℕ) where
   place : Found
   place = property_place pool texts links (properties_first schemas s) (properties_count schemas s) (key_text nodes links n k)
 
-  pub place_other : {key kind : ℕ} → key ≡ entry_key nodes links n k → kind ≡ node_kind nodes key → (kind ≡ 4 → ⊥) → Nothing ≡ entry_place pool texts nodes schemas links n s k
+  pub place_other : {key kind : ℕ} → key ≡ entry_key nodes links n k → kind ≡ node_kind nodes key → (kind ≡ 4 → ⊥) → None ≡ entry_place pool texts nodes schemas links n s k
   unfolding entry_place
   place_other e q h = rw (ne_eqb (node_kind nodes (entry_key nodes links n k)) 4 (λ z. h (q ∙ ap (node_kind nodes) e ∙ z)))
 
@@ -43,33 +42,22 @@ module _ (pool texts nodes schemas links : List ℕ) (n s k : ℕ) where
       g ∙ rw (a, b, c, e, eq-eqb (node_kind nodes (entry_key nodes links n k)) 4 (ap (node_kind nodes) (sym e) ∙ sym q ∙ h))
 
   -- a place is found for a string key alone
-  found_string : (b : Bool) (f : Found) (p : ℕ) → pick b f Nothing ≡ At p → b ≡ true
+  found_string : (b : Bool) (f : Found) (p : ℕ) → pick b f None ≡ Some p → b ≡ true
   found_string true f p h = refl
   found_string false f p h = absurd (let z : ◌≡◌ {A = ℕ} 0 1 = cc in omega arith)
 
-  module _ {p : ℕ} (h : entry_place pool texts nodes schemas links n s k ≡ At p) where
+  module _ {p : ℕ} (h : entry_place pool texts nodes schemas links n s k ≡ Some p) where
     pub placed_string : node_kind nodes (entry_key nodes links n k) ≡ 4
     unfolding entry_place place
     placed_string = eqb-true _ _ (found_string (eqb (node_kind nodes (entry_key nodes links n k)) 4) place p h)
 
-    pub placed_at : property_place pool texts links (properties_first schemas s) (properties_count schemas s) (key_text nodes links n k) ≡ At p
+    pub placed_at : property_place pool texts links (properties_first schemas s) (properties_count schemas s) (key_text nodes links n k) ≡ Some p
     unfolding entry_place
     placed_at = rw (eq-eqb (node_kind nodes (entry_key nodes links n k)) 4 placed_string) at h
 
     pub placed_part : {part : ℕ} → part ≡ pair_value links (properties_first schemas s) p → Part part ≡ chosen_in pool texts schemas links s (key_text nodes links n k)
     unfolding chosen_in property_of
     placed_part e = rw (placed_at, e)
-
--- ---- whether places rise
-module _ (ordered : Bool) (k last place : ℕ) where
-  pub rise_first : ordered ≡ true → k ≡ 0 → true ≡ both ordered (either (eqb k 0) (ltb last place))
-  rise_first h e = rw (h, e)
-
-  pub rise_more : {r : Bool} → ordered ≡ true → (k ≡ 0 → ⊥) → r ≡ ltb last place → r ≡ both ordered (either (eqb k 0) (ltb last place))
-  rise_more h e q = q ∙ rw (h, ne_eqb k 0 e)
-
-  pub rise_no : ordered ≡ false → false ≡ both ordered (either (eqb k 0) (ltb last place))
-  rise_no h = rw h
 
 -- ---- schemas without parts
 module _ (T : Tables) (mode : Mode) (level n s kind : ℕ) (over : level ≡ 0 → ⊥) (own : kind ≡ schema_kind T.schemas s) (r : Bool) where
@@ -95,9 +83,9 @@ module _ (T : Tables) (mode : Mode) (level n s kind : ℕ) (over : level ≡ 0 �
 
 -- ---- entries and objects
 module _ (T : Tables) (mode : Mode) (below n s : ℕ) where
-  pub entry_at_once : (k : ℕ) {p part value : ℕ} {f : Found} → f ≡ entry_place T.pool T.texts T.nodes T.schemas T.links n s k → f ≡ At p → part ≡ pair_value T.links (properties_first T.schemas s) p → value ≡ entry_value T.nodes T.links n k → visit_of T mode below value part ≡ accepted → entry_in T mode below n s k ≡ accepted
+  pub entry_at_once : (k : ℕ) {p part value : ℕ} {f : Found} → f ≡ entry_place T.pool T.texts T.nodes T.schemas T.links n s k → f ≡ Some p → part ≡ pair_value T.links (properties_first T.schemas s) p → value ≡ entry_value T.nodes T.links n k → visit_of T mode below value part ≡ accepted → entry_in T mode below n s k ≡ accepted
   entry_at_once k {p} {part} {value} e h q v a =
-      let at : entry_place T.pool T.texts T.nodes T.schemas T.links n s k ≡ At p = sym e ∙ h in
+      let at : entry_place T.pool T.texts T.nodes T.schemas T.links n s k ≡ Some p = sym e ∙ h in
       entry_part T mode below n s k (entry_key T.nodes T.links n k) refl (key_text T.nodes T.links n k) (placed_string _ _ _ _ _ _ _ _ at) refl (Part part) (placed_part _ _ _ _ _ _ _ _ at q) value part v refl
       ∙ part_accepted T mode below value part 0 (key_text T.nodes T.links n k) a
 
@@ -117,7 +105,7 @@ module _ (T : Tables) (mode : Mode) (below n s : ℕ) where
   gone_begin count e = record { within = omega arith; left = start count e; order = λ h. order_begin _ _ _ _ _ _ _ 0 }
 
   module _ {count : ℕ} {ordered : Bool} {last k : ℕ} (g : Gone count ordered last k) where
-    pub gone_more : {p part value : ℕ} {f : Found} {r o : Bool} → k < count → f ≡ entry_place T.pool T.texts T.nodes T.schemas T.links n s k → f ≡ At p → part ≡ pair_value T.links (properties_first T.schemas s) p → value ≡ entry_value T.nodes T.links n k → Accepts r (visit_of T mode below value part) → r ≡ true → o ≡ both ordered (either (eqb k 0) (ltb last p)) → Gone count o p (k + 1)
+    pub gone_more : {p part value : ℕ} {f : Found} {r o : Bool} → k < count → f ≡ entry_place T.pool T.texts T.nodes T.schemas T.links n s k → f ≡ Some p → part ≡ pair_value T.links (properties_first T.schemas s) p → value ≡ entry_value T.nodes T.links n k → Accepts r (visit_of T mode below value part) → r ≡ true → o ≡ both ordered (either (eqb k 0) (ltb last p)) → Gone count o p (k + 1)
     unfolding Accepts
     gone_more {p} lt e h q v a t u =
         record {

@@ -7,26 +7,27 @@ use mathlib.Core.Option.{Option}
 use native.Mathlib.Omega.{arith}
 use native.Mathlib.Nat.{add-zero}
 use lib.ListN.{length, get_or, set, length-set}
-use types.Run.{OneOf, miss}
-use denote.Enum.Declared.{tag_of}
-use Rattle.judge.specs.contracts.Verdict.{the_type as verdict-type}
-use Rattle.validator.specs.contracts.paths.Visited.{the_type}
 use lib.Seq.{get_or-set_same, get_or-set_other}
-use Rattle.text.specs.Choice.{both, pick}
+use Rattle.std.specs.Result.{is_err}
+use Rattle.text.specs.Choice.{both, pick, clash}
 use Rattle.error.specs.declared.Detail.{Detail}
 use Rattle.error.specs.Paths.{Step, step_tag, step_word, step_of, path_words}
-use Rattle.judge.specs.declared.Verdict.{Verdict}
-use Rattle.judge.specs.declared.Verdict.TheVariants.{Fine, Wrong, BadPattern, Unanswered}
+use Rattle.std.specs.Prelude.{Ok, Err}
+use Rattle.judge.specs.declared.Wrong.TheVariants.{Value, BadPattern, Unanswered}
+use Rattle.judge.specs.Judge.{Verdict, fine}
 use Rattle.schema.specs.Shape.{Note}
-use Rattle.validator.specs.declared.paths.Visited.{Visited}
-use Rattle.validator.specs.declared.paths.Visited.TheVariants.{Accepted, Refused, Invalid, Ended}
+use Rattle.std.specs.Prelude.{Ok, Err, IsErrAnd}
+use Rattle.validator.specs.declared.paths.Paths.{Paths}
+use Rattle.validator.specs.declared.paths.Trail.{Trail}
+use Rattle.validator.specs.declared.paths.Stop.{Stop}
+use Rattle.validator.specs.declared.paths.Stop.TheVariants.{Refused, Invalid, Ended}
 use Rattle.validator.specs.Outcome.{Error, Outcome, accepted, refused, invalid, ended, made, under, place, and_then, verdict}
-use Rattle.validator.specs.Met.{told, steps_of, kinds_of, leaves_step, leaves_kind, mark_in, pair_in, Holds, Calm, Met}
+use Rattle.validator.specs.Met.{Visited, told, steps_of, kinds_of, leaves_step, leaves_kind, mark_in, pair_in, Holds, Calm, Met, Deep, Same}
 
 -- ---- outcomes and how they are told
 abbrev counted : Error → ℕ → ℕ → Visited
 counted e a b =
-    Refused (record {
+    Err (Refused (record {
       number = e.number;
       node = e.node;
       schema = e.schema;
@@ -34,7 +35,10 @@ counted e a b =
       detail = e.detail;
       steps = a;
       kinds = b;
-    })
+    }))
+
+abbrev told_invalid : ℕ → Visited
+told_invalid n = Err (Invalid n)
 
 pub told_under : (kind : ℕ) (o : Outcome) (s k : ℕ) → told (under kind o) s k ≡ told o s (k + 1)
 told_under kind accepted s k = refl
@@ -51,35 +55,33 @@ told_place p (refused e) s k =
     ap (λ (m : ℕ). counted e m (k + length e.kinds)) h
 told_place p (invalid q) s k =
     let h : s + length (p ∷ q) ≡ s + 1 + length q = omega arith in
-    ap Invalid h
+    ap told_invalid h
 told_place p (ended n) s k = refl
 
--- a refusing arm
-other : (r : Visited) → OneOf (1 ∷ 2 ∷ 3 ∷ []) (tag_of the_type r) → r ≡ Accepted → ⊥
-other Accepted h e = miss (1 ∷ 2 ∷ 3 ∷ []) 0 tt h
-other (Refused x) h e = let z : ◌≡◌ {A = ℕ} 0 1 = cc in omega arith
-other (Invalid n) h e = let z : ◌≡◌ {A = ℕ} 0 1 = cc in omega arith
-other (Ended n) h e = let z : ◌≡◌ {A = ℕ} 0 1 = cc in omega arith
-
-pub verdict-stop : (v : Verdict) (s : ℕ) (note : Option Note) (rest : Outcome) → OneOf (1 ∷ 2 ∷ 3 ∷ []) (tag_of verdict-type v) → and_then (verdict v s note) rest ≡ verdict v s note
-verdict-stop Fine s note rest h = absurd (miss (1 ∷ 2 ∷ 3 ∷ []) 0 tt h)
-verdict-stop (Wrong number node d) s note rest h = refl
-verdict-stop BadPattern s note rest h = refl
-verdict-stop Unanswered s note rest h = refl
-
 module _ (s k : ℕ) (r : Visited) where
-  pub is_accepted : (o : Outcome) → r ≡ told o s k → r ≡ Accepted → o ≡ accepted
+  pub is_accepted : (o : Outcome) → r ≡ told o s k → r ≡ Ok tt → o ≡ accepted
   is_accepted accepted e h = refl
   is_accepted (refused x) e h = absurd (let z : ◌≡◌ {A = ℕ} 0 1 = cc in omega arith)
   is_accepted (invalid p) e h = absurd (let z : ◌≡◌ {A = ℕ} 0 1 = cc in omega arith)
   is_accepted (ended n) e h = absurd (let z : ◌≡◌ {A = ℕ} 0 1 = cc in omega arith)
 
   -- the first that is not accepted
-  pub and_stop : (o rest : Outcome) → r ≡ told o s k → OneOf (1 ∷ 2 ∷ 3 ∷ []) (tag_of the_type r) → and_then o rest ≡ o
-  and_stop accepted rest e h = absurd (other r h e)
-  and_stop (refused x) rest e h = refl
-  and_stop (invalid p) rest e h = refl
-  and_stop (ended n) rest e h = refl
+  pub and_stop : (o rest : Outcome) (x : Stop) → r ≡ told o s k → r ≡ Err x → and_then o rest ≡ o
+  and_stop accepted rest x e h = absurd (let z : ◌≡◌ {A = ℕ} 0 1 = cc in omega arith)
+  and_stop (refused y) rest x e h = refl
+  and_stop (invalid p) rest x e h = refl
+  and_stop (ended n) rest x e h = refl
+
+-- a verdict that stops, and one that does not
+module _ (v : Verdict) (schema : ℕ) (note : Option Note) (s k : ℕ) (r : Visited) (e : r ≡ told (verdict v schema note) s k) where
+  pub verdict-stop : (rest : Outcome) (x : Stop) → r ≡ Err x → and_then (verdict v schema note) rest ≡ verdict v schema note
+  verdict-stop rest x h = and_stop s k r (verdict v schema note) rest x e h
+
+pub verdict_fine : (v : Verdict) (schema : ℕ) (note : Option Note) (s k : ℕ) (r : Visited) → r ≡ told (verdict v schema note) s k → r ≡ Ok tt → v ≡ fine
+verdict_fine (Ok u) schema note s k r e h = refl
+verdict_fine (Err (Value number node d)) schema note s k r e h = absurd (let z : ◌≡◌ {A = ℕ} 0 1 = cc in omega arith)
+verdict_fine (Err BadPattern) schema note s k r e h = absurd (let z : ◌≡◌ {A = ℕ} 0 1 = cc in omega arith)
+verdict_fine (Err Unanswered) schema note s k r e h = absurd (let z : ◌≡◌ {A = ℕ} 0 1 = cc in omega arith)
 
 pub and_go : (o rest : Outcome) → o ≡ accepted → and_then o rest ≡ rest
 and_go o rest h = rw h
@@ -95,11 +97,11 @@ both_no : (log : Bool) → both log false ≡ false
 both_no true = refl
 both_no false = refl
 
-pub calm_same : (log : Bool) (n : ℕ) (xs : List ℕ) → Calm log n xs xs
-calm_same log n xs = record { long = refl; kept = λ j h. refl; quiet = λ h. refl }
+pub calm_same : {log : Bool} {n : ℕ} {xs : List ℕ} → Calm log n xs xs
+calm_same = record { long = refl; kept = λ j h. refl; quiet = λ h. refl }
 
-pub calm_through : (log : Bool) (n : ℕ) (xs ys zs : List ℕ) → Calm log n xs ys → Calm log n ys zs → Calm log n xs zs
-calm_through log n xs ys zs a b =
+pub calm_through : {log : Bool} {n : ℕ} {xs ys zs : List ℕ} → Calm log n xs ys → Calm log n ys zs → Calm log n xs zs
+calm_through a b =
     record {
       long = b.long ∙ a.long;
       kept = λ j h. b.kept j h ∙ a.kept j h;
@@ -118,19 +120,17 @@ calm_set xs at w n le =
     }
 
 pub calm_mark : (log b : Bool) (xs : List ℕ) (at w : ℕ) → Calm log at xs (mark_in (both log b) xs at w)
-unfolding mark_in
 calm_mark true true xs at w = calm_set xs at w at (omega arith)
-calm_mark true false xs at w = calm_same true at xs
-calm_mark false b xs at w = calm_same false at xs
+calm_mark true false xs at w = calm_same
+calm_mark false b xs at w = calm_same
 
 pub calm-pair : (log b : Bool) (xs : List ℕ) (at tag w : ℕ) → Calm log (at * 2) xs (pair_in (both log b) xs at tag w)
-unfolding pair_in
 calm-pair true true xs at tag w =
-    calm_through true (at * 2) xs (set xs (at * 2 + 1) w) (set (set xs (at * 2 + 1) w) (at * 2) tag)
+    calm_through
     (calm_set xs (at * 2 + 1) w (at * 2) (omega arith))
     (calm_set (set xs (at * 2 + 1) w) (at * 2) tag (at * 2) (omega arith))
-calm-pair true false xs at tag w = calm_same true (at * 2) xs
-calm-pair false b xs at tag w = calm_same false (at * 2) xs
+calm-pair true false xs at tag w = calm_same
+calm-pair false b xs at tag w = calm_same
 
 -- ---- words of a path
 pub holds-none : (xs : List ℕ) (at : ℕ) → Holds xs at []
@@ -145,13 +145,11 @@ holds_cons xs at w p lt h (suc j) b =
     get_or-set_other xs at (at + suc j) w 0 (λ z. omega arith) ∙ ap (λ (m : ℕ). get_or xs m 0) e ∙ h j (omega arith)
 
 holds_mark : (log b : Bool) (xs : List ℕ) (at w : ℕ) (p : List ℕ) → at < length xs → log ≡ true → Holds xs (at + 1) p → Holds (mark_in (both log b) xs at w) at (pick b (w ∷ p) [])
-unfolding mark_in
 holds_mark true true xs at w p lt e h = holds_cons xs at w p lt h
 holds_mark true false xs at w p lt e h = holds-none xs at
 holds_mark false b xs at w p lt e h = absurd (let z : ◌≡◌ {A = ℕ} 0 1 = cc in omega arith)
 
 holds-pair : (log b : Bool) (xs : List ℕ) (at tag w : ℕ) (p : List ℕ) → at * 2 + 1 < length xs → log ≡ true → Holds xs ((at + 1) * 2) p → Holds (pair_in (both log b) xs at tag w) (at * 2) (pick b (tag ∷ w ∷ p) [])
-unfolding pair_in
 holds-pair true true xs at tag w p lt e h =
     let d : (at + 1) * 2 ≡ at * 2 + 1 + 1 = omega arith in
     holds_cons (set xs (at * 2 + 1) w) (at * 2) tag (w ∷ p) (rw length-set (omega arith))
@@ -160,17 +158,17 @@ holds-pair true false xs at tag w p lt e h = holds-none xs (at * 2)
 holds-pair false b xs at tag w p lt e h = absurd (let z : ◌≡◌ {A = ℕ} 0 1 = cc in omega arith)
 
 -- ---- what is met
-pub met_is : (o o' : Outcome) (log : Bool) (s k : ℕ) (I I' S S' : List ℕ) (r : Visited) → o ≡ o' → Met o' log s k I I' S S' r → Met o log s k I I' S S' r
-met_is o o' log s k I I' S S' r e m = rw e m
+pub met_is : {o o' : Outcome} {log : Bool} {s k : ℕ} {I I' S S' : List ℕ} {r : Visited} → o ≡ o' → Met o' log s k I I' S S' r → Met o log s k I I' S S' r
+met_is e m = rw e m
 
-pub met_through : (o : Outcome) (log : Bool) (s k : ℕ) (I J I' S R S' : List ℕ) (r : Visited) → Calm log (s * 2) I J → Calm log k S R → Met o log s k J I' R S' r → Met o log s k I I' S S' r
-met_through o log s k I J I' S R S' r ci cs m =
+pub met_through : {o : Outcome} {log : Bool} {s k : ℕ} {I J I' S R S' : List ℕ} {r : Visited} → Calm log (s * 2) I J → Calm log k S R → Met o log s k J I' R S' r → Met o log s k I I' S S' r
+met_through {o} {log} {s} {k} {I} {J} {I'} {S} {R} {S'} ci cs m =
     record {
       answer = m.answer;
       few_i = m.few_i;
       few_k = m.few_k;
-      calm_i = calm_through log (s * 2) I J I' ci m.calm_i;
-      calm_s = calm_through log k S R S' cs m.calm_s;
+      calm_i = calm_through ci m.calm_i;
+      calm_s = calm_through cs m.calm_s;
       path_i = m.path_i;
       path_s = m.path_s;
     }
@@ -189,35 +187,81 @@ met-bare o log s k I I' S S' r es ek ls lk e ci cs =
       path_s = λ t. rw ek (holds-none S' k);
     }
 
-pub met-accepted : (log : Bool) (s k : ℕ) (I I' S S' : List ℕ) (r : Visited) → s ≤ 64 → k ≤ 64 → r ≡ Accepted → Calm log (s * 2) I I' → Calm log k S S' → Met accepted log s k I I' S S' r
+pub met-accepted : (log : Bool) (s k : ℕ) (I I' S S' : List ℕ) (r : Visited) → s ≤ 64 → k ≤ 64 → r ≡ Ok tt → Calm log (s * 2) I I' → Calm log k S S' → Met accepted log s k I I' S S' r
 met-accepted log s k I I' S S' r ls lk e ci cs = met-bare accepted log s k I I' S S' r refl refl ls lk e ci cs
 
-pub met_ended : (n : ℕ) (log : Bool) (s k : ℕ) (I I' S S' : List ℕ) (r : Visited) → s ≤ 64 → k ≤ 64 → r ≡ Ended n → Calm log (s * 2) I I' → Calm log k S S' → Met (ended n) log s k I I' S S' r
+pub met_ended : (n : ℕ) (log : Bool) (s k : ℕ) (I I' S S' : List ℕ) (r : Visited) → s ≤ 64 → k ≤ 64 → r ≡ Err (Ended n) → Calm log (s * 2) I I' → Calm log k S S' → Met (ended n) log s k I I' S S' r
 met_ended n log s k I I' S S' r ls lk e ci cs = met-bare (ended n) log s k I I' S S' r refl refl ls lk e ci cs
 
 verdict_steps : (v : Verdict) (s : ℕ) (note : Option Note) → steps_of (verdict v s note) ≡ []
-verdict_steps Fine s note = refl
-verdict_steps (Wrong number node d) s note = refl
-verdict_steps BadPattern s note = refl
-verdict_steps Unanswered s note = refl
+verdict_steps (Ok u) s note = refl
+verdict_steps (Err (Value number node d)) s note = refl
+verdict_steps (Err BadPattern) s note = refl
+verdict_steps (Err Unanswered) s note = refl
 
 verdict-kinds : (v : Verdict) (s : ℕ) (note : Option Note) → kinds_of (verdict v s note) ≡ []
-verdict-kinds Fine s note = refl
-verdict-kinds (Wrong number node d) s note = refl
-verdict-kinds BadPattern s note = refl
-verdict-kinds Unanswered s note = refl
+verdict-kinds (Ok u) s note = refl
+verdict-kinds (Err (Value number node d)) s note = refl
+verdict-kinds (Err BadPattern) s note = refl
+verdict-kinds (Err Unanswered) s note = refl
 
 -- a leaf's verdict, both buffers untouched
 pub met-verdict : (v : Verdict) (schema : ℕ) (note : Option Note) (log : Bool) (s k : ℕ) (I S : List ℕ) (r : Visited) → s ≤ 64 → k ≤ 64 → r ≡ told (verdict v schema note) s k → Met (verdict v schema note) log s k I I S S r
 met-verdict v schema note log s k I S r ls lk e =
-    met-bare (verdict v schema note) log s k I I S S r (verdict_steps v schema note) (verdict-kinds v schema note) ls lk e (calm_same log (s * 2) I) (calm_same log k S)
+    met-bare (verdict v schema note) log s k I I S S r (verdict_steps v schema note) (verdict-kinds v schema note) ls lk e (calm_same) (calm_same)
 
 pub met_made : (number node schema : ℕ) (note : Option Note) (d : Detail) (log : Bool) (s k : ℕ) (I S : List ℕ) (r : Visited) → s ≤ 64 → k ≤ 64 → r ≡ told (refused (made number node schema note d)) s k → Met (refused (made number node schema note d)) log s k I I S S r
 met_made number node schema note d log s k I S r ls lk e =
-    met-bare (refused (made number node schema note d)) log s k I I S S r refl refl ls lk e (calm_same log (s * 2) I) (calm_same log k S)
+    met-bare (refused (made number node schema note d)) log s k I I S S r refl refl ls lk e (calm_same) (calm_same)
+
+-- ... where a level, or a part of it, begins
+module _ {t : Trail} {below : ℕ} {Q : Paths} {P : List ℕ} (d : Deep t below Q P) {log : Bool} {I S : List ℕ} {r : Visited} where
+  pub deep_verdict : (v : Verdict) (schema : ℕ) (note : Option Note) → r ≡ told (verdict v schema note) t.steps t.kinds → Met (verdict v schema note) log t.steps t.kinds I I S S r
+  deep_verdict v schema note e = met-verdict v schema note log t.steps t.kinds I S r (omega (arith, d)) (omega (arith, d)) e
+
+  pub deep_made : (number node schema : ℕ) (note : Option Note) (detail : Detail) → r ≡ told (refused (made number node schema note detail)) t.steps t.kinds → Met (refused (made number node schema note detail)) log t.steps t.kinds I I S S r
+  deep_made number node schema note detail e = met_made number node schema note detail log t.steps t.kinds I S r (omega (arith, d)) (omega (arith, d)) e
+
+  module _ {I' S' : List ℕ} where
+    pub deep_accepted : r ≡ Ok tt → Calm log (t.steps * 2) I I' → Calm log t.kinds S S' → Met accepted log t.steps t.kinds I I' S S' r
+    deep_accepted e ci cs = met-accepted log t.steps t.kinds I I' S S' r (omega (arith, d)) (omega (arith, d)) e ci cs
+
+    pub deep_ended : {n : ℕ} → r ≡ Err (Ended n) → Calm log (t.steps * 2) I I' → Calm log t.kinds S S' → Met (ended n) log t.steps t.kinds I I' S S' r
+    deep_ended {n} e ci cs = met_ended n log t.steps t.kinds I I' S S' r (omega (arith, d)) (omega (arith, d)) e ci cs
+
+-- what `?` passes up is what it was given
+pub passed_up : (r : Visited) (x : Stop) → IsErrAnd r (λ y. y ≡ x) → Err x ≡ r
+passed_up (Ok _) x h = absurd h
+passed_up (Err y) x h = ap Err (sym h)
+
+pub same_through : {P Q R : Paths} → Same P Q → Same Q R → Same P R
+same_through a b = record { instance = b.instance ∙ a.instance; schema = b.schema ∙ a.schema }
+
+-- a loop so far: X is what is left of it, and both buffers are calm
+pub record Walked (X rest : Outcome) (log : Bool) (s k : ℕ) (I J S R : List ℕ) : Type 0 where
+  pub left : X ≡ rest
+  pub instance : Calm log (s * 2) I J
+  pub schema : Calm log k S R
+
+module _ {X rest : Outcome} {log : Bool} {s k : ℕ} {I J S R : List ℕ} (g : Walked X rest log s k I J S R) where
+  pub walked_on : {o next : Outcome} {I' S' : List ℕ} {r : Visited} → X ≡ next → Met o log s k J I' R S' r → Walked X next log s k I I' S S'
+  walked_on e m = record { left = e; instance = calm_through g.instance m.calm_i; schema = calm_through g.schema m.calm_s }
+
+  pub walked_stop : {o : Outcome} {I' S' : List ℕ} {x : Stop} {r r' : Visited} → X ≡ o → r ≡ Err x → IsErrAnd r' (λ y. y ≡ x) → Met o log s k J I' R S' r → Met X log s k I I' S S' r'
+  walked_stop {r' = r'} e q up m = rw (← (q ∙ passed_up r' _ up)) (met_is e (met_through g.instance g.schema m))
+
+  pub walked_kept : {I' S' : List ℕ} {r : Visited} → Met X log s k J I' R S' r → Met X log s k I I' S S' r
+  walked_kept m = met_through g.instance g.schema m
+
+module _ {X rest : Outcome} {log : Bool} {t : Trail} {I J S R : List ℕ} (g : Walked X rest log t.steps t.kinds I J S R) {below : ℕ} {Q : Paths} {P : List ℕ} (d : Deep t below Q P) where
+  pub walked_all : rest ≡ accepted → Met X log t.steps t.kinds I J S R (Ok tt)
+  walked_all e = met_is (g.left ∙ e) (deep_accepted d refl g.instance g.schema)
+
+  pub walked_ended : {n : ℕ} → rest ≡ ended n → Met X log t.steps t.kinds I J S R (Err (Ended n))
+  walked_ended e = met_is (g.left ∙ e) (deep_ended d refl g.instance g.schema)
 
 -- what is accepted further down is accepted here
-pub met_up : (o o' : Outcome) (log : Bool) (s k s' k' : ℕ) (I I' S S' : List ℕ) (r : Visited) → s ≤ s' → k ≤ k' → o' ≡ accepted → r ≡ Accepted → Met o log s' k' I I' S S' r → Met o' log s k I I' S S' r
+pub met_up : (o o' : Outcome) (log : Bool) (s k s' k' : ℕ) (I I' S S' : List ℕ) (r : Visited) → s ≤ s' → k ≤ k' → o' ≡ accepted → r ≡ Ok tt → Met o log s' k' I I' S S' r → Met o' log s k I I' S S' r
 met_up o o' log s k s' k' I I' S S' r ls lk e a m =
     rw e (met-accepted log s k I I' S S' r (omega (arith, m.few_i)) (omega (arith, m.few_k)) a
     (calm_less log (s * 2) (s' * 2) I I' (omega arith) m.calm_i)
@@ -250,7 +294,7 @@ met_under o log on s k kind I I' S R S' r m lt b marked =
       few_i = rw q m.few_i;
       few_k = rw p (few-pick (leaves_kind r) k kind (kinds_of o) m.few_k);
       calm_i = m.calm_i;
-      calm_s = calm_through log k S R S' (calm_less log k (k + 1) S R (omega arith) m.calm_s) (rw e (calm_mark log (leaves_kind r) R k kind));
+      calm_s = calm_through (calm_less log k (k + 1) S R (omega arith) m.calm_s) (rw e (calm_mark log (leaves_kind r) R k kind));
       path_i = λ t. rw q (m.path_i t);
       path_s = λ t. rw (p, e) (holds_mark log (leaves_kind r) R k kind (kinds_of o) lt t (m.path_s t));
     }
@@ -298,7 +342,7 @@ met_part o log on s k tag w I J I' S S' r m small lt b marked =
       answer = m.answer ∙ sym (told_place st o s k);
       few_i = few_place st o s m.few_i;
       few_k = rw q m.few_k;
-      calm_i = calm_through log (s * 2) I J I' (calm_less log (s * 2) ((s + 1) * 2) I J (omega arith) m.calm_i) (rw e (calm-pair log (leaves_step r) J s tag w));
+      calm_i = calm_through (calm_less log (s * 2) ((s + 1) * 2) I J (omega arith) m.calm_i) (rw e (calm-pair log (leaves_step r) J s tag w));
       calm_s = m.calm_s;
       path_i = λ t. rw (p, e) (holds-pair log (leaves_step r) J s tag w (path_words (steps_of o)) lt t (m.path_i t));
       path_s = λ t. rw q (m.path_s t);

@@ -8,24 +8,20 @@ use native.Mathlib.Omega.{arith}
 use native.Mathlib.Numerals.{add-one}
 use lib.Dec.{eqb, leb}
 use lib.ListN.{get_or}
-use types.Run.{OneOf}
-use denote.Enum.Declared.{tag_of}
 use borrow.Author.Tests.{eq-eqb, ne_eqb, le-leb, lt-leb, eqb-true, eqb-false, leb-false}
-use Rattle.text.specs.Choice.{pick, pick_all}
+use Rattle.text.specs.Choice.{pick, pick_all, clash}
 use Rattle.text.specs.Text.{same_text}
 use Rattle.error.specs.declared.Mode.{Mode}
 use Rattle.error.specs.declared.Detail.TheVariants.{Property, Key, Reference}
 use Rattle.error.specs.Answers.{NONE}
-use Rattle.error.specs.Paths.{key_step, item_step, step_of}
+use Rattle.error.specs.Paths.{key_step, step_of}
 use Rattle.layout.specs.Layout.{Tables, node_kind, node_a, node_b, schema_kind, schema_word, list_first, list_count, array_items, ref_text, properties_first, properties_count, required_first, required_count, object_closed, additional_properties, pair_key, pair_value}
-use Rattle.lookup.specs.declared.Found.{Found}
-use Rattle.lookup.specs.declared.Found.TheVariants.{At, Nothing}
-use Rattle.lookup.specs.Find.{first_from, found_at, to_option}
+use Rattle.lookup.specs.Find.{Found, first_from, found_at, to_option}
+use Rattle.std.specs.Prelude.{Some, None}
 use Rattle.lookup.specs.Lookup.{entry_key, entry_value, pair_has_key, property_of, resolve_of, answer_of_pattern, find_in}
-use Rattle.judge.specs.declared.Verdict.{Verdict}
-use Rattle.judge.specs.declared.Verdict.TheVariants.{Fine, Wrong, BadPattern, Unanswered}
-use Rattle.judge.specs.contracts.Verdict.{the_type as verdict-type}
-use Rattle.judge.specs.Judge.{first_wrong, boolean_verdict, null_verdict, number_verdict, string_verdict, enum_verdict, array_verdict, items_of, has_key, required_verdict, missing, before_entries, judge_of, number_or as foundOr}
+use Rattle.error.specs.declared.Reason.TheVariants as reason
+use Rattle.judge.specs.declared.Wrong.TheVariants.{Value, BadPattern, Unanswered}
+use Rattle.judge.specs.Judge.{Verdict, fine, first_wrong, boolean_verdict, null_verdict, number_verdict, string_verdict, enum_verdict, array_verdict, items_of, has_key, required_verdict, missing, before_entries, judge_of, number_or as foundOr}
 use Rattle.schema.specs.Shape.{Note, Object, Shape, plain, any_of, all_of, array, object, ref}
 use Rattle.schema.specs.Look.{words_of, look, raw, detecting, sort_shape, own_of, array_of, object_of, slice, pairs_from, own_words, optional}
 use Rattle.validator.specs.declared.walk.Choice.{Choice}
@@ -34,19 +30,18 @@ use Rattle.validator.specs.Outcome.{Outcome, accepted, refused, invalid, ended, 
 use Rattle.validator.specs.Visit.{Nodes, find_pair, any_over, all_over, items_over, entries_over, required_over, object_at, array_at, property_at, extra_at, number_or, visit_body, visit_at}
 use Rattle.validator.specs.Nodes.{entry_of, entries_from}
 use Rattle.validator.specs.Validate.{visit_of}
-use Rattle.validator.specs.Met.{told, choice_of, chosen_in, nodes_in, note_in, object_in, any_in, all_in, array_in, entry_in, object_whole, ref_in, part_in, within, inner_in}
+use Rattle.validator.specs.Met.{Visited, told, choice_of, chosen_in, nodes_in, note_in, object_in, any_in, all_in, array_in, entry_in, object_whole, ref_in, part_in, within, inner_in}
 use Rattle.validator.proofs.Buffers.{is_accepted, and_stop, and_go, and_accepted, verdict-stop}
 use Rattle.validator.proofs.Loops.{any_begin, all_begin, items_begin, entries_begin, entries_step, entries_end, items-stop as stop, items_more as more}
-use Rattle.validator.specs.contracts.paths.Visited.{the_type}
-use Rattle.validator.specs.declared.paths.Visited.{Visited}
-use Rattle.validator.specs.declared.paths.Visited.TheVariants.{Accepted}
+use Rattle.std.specs.Prelude.{Ok, Err}
+use Rattle.validator.specs.declared.paths.Stop.{Stop}
 
 -- ---- verdicts one after the other
 verdict_first : (a b : Verdict) (s : ℕ) (note : Option Note) → verdict (first_wrong a b) s note ≡ and_then (verdict a s note) (verdict b s note)
-verdict_first Fine b s note = refl
-verdict_first (Wrong number node d) b s note = refl
-verdict_first BadPattern b s note = refl
-verdict_first Unanswered b s note = refl
+verdict_first (Ok u) b s note = refl
+verdict_first (Err (Value number node d)) b s note = refl
+verdict_first (Err BadPattern) b s note = refl
+verdict_first (Err Unanswered) b s note = refl
 
 and_and : (a b c : Outcome) → and_then (and_then a b) c ≡ and_then a (and_then b c)
 and_and accepted b c = refl
@@ -55,7 +50,7 @@ and_and (invalid p) b c = refl
 and_and (ended n) b c = refl
 
 -- ---- properties
-pick_found : (b : Bool) (f : ℕ → ℕ) (k : ℕ) (later : Found) → pick b (some (f k)) (to_option (found_at f later)) ≡ to_option (found_at f (pick b (At k) later))
+pick_found : (b : Bool) (f : ℕ → ℕ) (k : ℕ) (later : Found) → pick b (some (f k)) (to_option (found_at f later)) ≡ to_option (found_at f (pick b (Some k) later))
 pick_found true f k later = refl
 pick_found false f k later = refl
 
@@ -72,8 +67,8 @@ module _ (pool texts links : List ℕ) (first t : ℕ) where
   find_property n = find_from 0 n
 
 or_found : (D : Nodes) (f : Found) → number_or D (λ (x : ℕ). x) (to_option f) ≡ foundOr f
-or_found D (At x) = refl
-or_found D Nothing = refl
+or_found D (Some x) = refl
+or_found D None = refl
 
 -- ---- one level
 module _ (T : Tables) (mode : Mode) (n s : ℕ) where
@@ -192,13 +187,13 @@ module _ (T : Tables) (mode : Mode) (below n s : ℕ) where
   array_first = refl
 
   module _ (v : Verdict) (e : v ≡ array_verdict mode T.pool T.texts T.nodes T.links T.numbers (own_words T.schemas s 3 3) n) where
-    pub array-wrong : OneOf (1 ∷ 2 ∷ 3 ∷ []) (tag_of verdict-type v) → array_in T mode below n s ≡ verdict v s (note_in T mode s)
-    array-wrong h = array_first ∙ rw (← e) (verdict-stop v s (note_in T mode s) _ h)
+    pub array-wrong : (st k : ℕ) (r : Visited) (x : Stop) → r ≡ told (verdict v s (note_in T mode s)) st k → r ≡ Err x → array_in T mode below n s ≡ verdict v s (note_in T mode s)
+    array-wrong st k r x q h = array_first ∙ rw (← e) (verdict-stop v s (note_in T mode s) st k r q _ x h)
 
-    array_fine : v ≡ Fine → array_in T mode below n s ≡ array_at (nodes_in T mode) (λ m. m) (visit_of T mode below) (optional (array_items T.schemas s)) n
+    array_fine : v ≡ fine → array_in T mode below n s ≡ array_at (nodes_in T mode) (λ m. m) (visit_of T mode below) (optional (array_items T.schemas s)) n
     array_fine h = array_first ∙ rw (← e, h)
 
-    module _ (items : ℕ) (i : items ≡ array_items T.schemas s) (f : v ≡ Fine) where
+    module _ (items : ℕ) (i : items ≡ array_items T.schemas s) (f : v ≡ fine) where
       pub array-free : items ≡ NONE → array_in T mode below n s ≡ accepted
       unfolding array_at
       array-free h = array_fine f ∙ rw (← i, h)
@@ -215,7 +210,7 @@ module _ (T : Tables) (mode : Mode) (below n s : ℕ) where
       required_one (has_key T.pool T.texts T.nodes T.links n t) _ _ _ _ (required_over_lem ts)
       (ap (number_or (nodes_in T mode) (λ (x : ℕ). x)) (find_property T.pool T.texts T.links (properties_first T.schemas s) t (properties_count T.schemas s)) ∙ or_found (nodes_in T mode) (property_of T.pool T.texts T.links (properties_first T.schemas s) (properties_count T.schemas s) t))
     where
-      required_one : (b : Bool) (rest : Outcome) (v : Verdict) (x y : ℕ) → rest ≡ verdict v s (note_in T mode s) → x ≡ y → pick b rest (refused (made 2 n s (note_in T mode s) (Property t x))) ≡ verdict (pick b v (Wrong 2 n (Property t y))) s (note_in T mode s)
+      required_one : (b : Bool) (rest : Outcome) (v : Verdict) (x y : ℕ) → rest ≡ verdict v s (note_in T mode s) → x ≡ y → pick b rest (refused (made 2 n s (note_in T mode s) (Property t x))) ≡ verdict (pick b v (Err (Value reason.MissingProperty n (Property t y)))) s (note_in T mode s)
       required_one true rest v x y e p = e
       required_one false rest v x y e p = rw p
 
@@ -225,17 +220,17 @@ module _ (T : Tables) (mode : Mode) (below n s : ℕ) where
       rw (required_over_lem (slice T.links (required_first T.schemas s) (required_count T.schemas s)), verdict_first, verdict_first, and_and, and_and)
 
   module _ (v : Verdict) (e : v ≡ before_entries T.pool T.texts T.nodes T.schemas T.links s n) where
-    pub object-wrong : OneOf (1 ∷ 2 ∷ 3 ∷ []) (tag_of verdict-type v) → object_whole T mode below n s ≡ verdict v s (note_in T mode s)
-    object-wrong h = object_first_lem ∙ rw (← e) (verdict-stop v s (note_in T mode s) _ h)
+    pub object-wrong : (st k : ℕ) (r : Visited) (x : Stop) → r ≡ told (verdict v s (note_in T mode s)) st k → r ≡ Err x → object_whole T mode below n s ≡ verdict v s (note_in T mode s)
+    object-wrong st k r x q h = object_first_lem ∙ rw (← e) (verdict-stop v s (note_in T mode s) st k r q _ x h)
 
-    pub object_entries : (count : ℕ) → v ≡ Fine → count ≡ node_b T.nodes n → object_whole T mode below n s ≡ entries_over (nodes_in T mode) (λ m. m) (visit_of T mode below) s (object_in T mode s) n (entries_from T n 0 count)
+    pub object_entries : (count : ℕ) → v ≡ fine → count ≡ node_b T.nodes n → object_whole T mode below n s ≡ entries_over (nodes_in T mode) (λ m. m) (visit_of T mode below) s (object_in T mode s) n (entries_from T n 0 count)
     object_entries count h p = object_first_lem ∙ rw (← e, h, p)
 
   -- the entries from entry i on
   unfoldable pub entries_left : ℕ → ℕ → Outcome
   entries_left i count = entries_over (nodes_in T mode) (λ m. m) (visit_of T mode below) s (object_in T mode s) n (entries_from T n i (count - i))
 
-  pub object-start : (v : Verdict) (count : ℕ) → v ≡ before_entries T.pool T.texts T.nodes T.schemas T.links s n → v ≡ Fine → count ≡ node_b T.nodes n → object_whole T mode below n s ≡ entries_left 0 count
+  pub object-start : (v : Verdict) (count : ℕ) → v ≡ before_entries T.pool T.texts T.nodes T.schemas T.links s n → v ≡ fine → count ≡ node_b T.nodes n → object_whole T mode below n s ≡ entries_left 0 count
   unfolding entries_left
   object-start v count e h p = object_entries v e count h p ∙ entries_begin (nodes_in T mode) T (visit_of T mode below) s (object_in T mode s) n count
 
@@ -248,10 +243,10 @@ module _ (T : Tables) (mode : Mode) (below n s : ℕ) where
     unfolding entries_left entry_in
     entries_cut = x ∙ entries_step (nodes_in T mode) T (visit_of T mode below) s (object_in T mode s) n count i lt
 
-    pub entries_stop : OneOf (1 ∷ 2 ∷ 3 ∷ []) (tag_of the_type a) → X ≡ entry_in T mode below n s i
-    entries_stop h = entries_cut ∙ and_stop st k a (entry_in T mode below n s i) (entries_left (i + 1) count) e h
+    pub entries_stop : (y : Stop) → a ≡ Err y → X ≡ entry_in T mode below n s i
+    entries_stop y h = entries_cut ∙ and_stop st k a (entry_in T mode below n s i) (entries_left (i + 1) count) y e h
 
-    pub entries_more : a ≡ Accepted → X ≡ entries_left (i + 1) count
+    pub entries_more : a ≡ Ok tt → X ≡ entries_left (i + 1) count
     entries_more h = entries_cut ∙ and_go (entry_in T mode below n s i) (entries_left (i + 1) count) (is_accepted st k a (entry_in T mode below n s i) e h)
 
   pub entries_on : {X : Outcome} (i count : ℕ) → X ≡ entries_left i count → i < count → entry_in T mode below n s i ≡ accepted → X ≡ entries_left (i + 1) count
@@ -270,14 +265,14 @@ module _ (T : Tables) (mode : Mode) (below n s : ℕ) where
   extra_choice o t v true more = refl
   extra_choice o t v false more = ap (place (key_step t)) (and_accepted (visit_of T mode below v more))
 
-  closed_choice : (o : Object ℕ) (t v : ℕ) (b : Bool) (more : ℕ) → o.note ≡ note_in T mode s → extra_at (nodes_in T mode) (λ m. m) (visit_of T mode below) s o n t v (pick (eqb more NONE) none (some (more ∷ []))) b ≡ on_choice t v (choice_of Nothing b more)
+  closed_choice : (o : Object ℕ) (t v : ℕ) (b : Bool) (more : ℕ) → o.note ≡ note_in T mode s → extra_at (nodes_in T mode) (λ m. m) (visit_of T mode below) s o n t v (pick (eqb more NONE) none (some (more ∷ []))) b ≡ on_choice t v (choice_of None b more)
   closed_choice o t v true more e = rw e
   closed_choice o t v false more e = extra_choice o t v (eqb more NONE) more
 
   property_choice : (t v : ℕ) (f : Found) → property_at (nodes_in T mode) (λ m. m) (visit_of T mode below) s (object_in T mode s) n t v (to_option f) ≡ on_choice t v (choice_of f (eqb (object_closed T.schemas s) 1) (additional_properties T.schemas s))
   unfolding object_of
-  property_choice t v (At x) = refl
-  property_choice t v Nothing = closed_choice (object_in T mode s) t v (eqb (object_closed T.schemas s) 1) (additional_properties T.schemas s) refl
+  property_choice t v (Some x) = refl
+  property_choice t v None = closed_choice (object_in T mode s) t v (eqb (object_closed T.schemas s) 1) (additional_properties T.schemas s) refl
 
   module _ (k key : ℕ) (e : key ≡ entry_key T.nodes T.links n k) where
     pub entry_skip : (node_kind T.nodes key ≡ 4 → ⊥) → entry_in T mode below n s k ≡ accepted
@@ -310,10 +305,6 @@ module _ (T : Tables) (mode : Mode) (below n s : ℕ) where
   unfolding part_in
   part_accepted tag word h = rw h
 
-  pub item_is : (i : ℕ) → part_in T mode below n s 1 i ≡ place (item_step i) (visit_of T mode below n s)
-  unfolding part_in
-  item_is i = refl
-
   -- lists
   pub any_list : (first count : ℕ) → first ≡ list_first T.schemas s → count ≡ list_count T.schemas s → any_in T mode below n s ≡ any_over (visit_of T mode below n) none (slice T.links (first + 0) (count - 0))
   unfolding any_in
@@ -329,24 +320,24 @@ module _ (T : Tables) (mode : Mode) (below n s : ℕ) where
   found_in t f e = rw e
 
   module _ (t : ℕ) (f : Found) (p : t ≡ ref_text T.schemas s) (e : f ≡ resolve_of T.pool T.texts T.registry t) where
-    pub ref_found : (x : ℕ) → f ≡ At x → ref_in T mode below n s ≡ visit_of T mode below n x
+    pub ref_found : (x : ℕ) → f ≡ Some x → ref_in T mode below n s ≡ visit_of T mode below n x
     unfolding ref_in
     ref_found x h = rw (← p, found_in t f e, h)
 
-    pub ref_lost : f ≡ Nothing → ref_in T mode below n s ≡ refused (made 12 n s (note_in T mode s) (Reference t))
+    pub ref_lost : f ≡ None → ref_in T mode below n s ≡ refused (made 12 n s (note_in T mode s) (Reference t))
     unfolding ref_in
     ref_lost h = rw (← p, found_in t f e, h)
 
 -- ---- an array's items, one step down each
 module _ (T : Tables) (mode : Mode) (below items : ℕ) (L : List ℕ) (first count i part : ℕ) (lt : i < count) (p : part ≡ get_or L (first + i) 0) (st k : ℕ) (a : Visited) (X : Outcome) (x : X ≡ items_over (λ m. visit_of T mode below m items) i (slice L (first + i) (count - i))) (e : a ≡ told (part_in T mode below part items 1 i) st k) where
-  pub items-stop : OneOf (1 ∷ 2 ∷ 3 ∷ []) (tag_of the_type a) → X ≡ part_in T mode below part items 1 i
+  pub items-stop : (y : Stop) → a ≡ Err y → X ≡ part_in T mode below part items 1 i
   unfolding part_in
-  items-stop h = stop L first count i part lt p (λ m. visit_of T mode below m items) st k a X x e h
+  items-stop y h = stop L first count i part lt p (λ m. visit_of T mode below m items) st k a X y x e h
 
-  pub items_more : a ≡ Accepted → X ≡ items_over (λ m. visit_of T mode below m items) (i + 1) (slice L (first + (i + 1)) (count - (i + 1)))
+  pub items_more : a ≡ Ok tt → X ≡ items_over (λ m. visit_of T mode below m items) (i + 1) (slice L (first + (i + 1)) (count - (i + 1)))
   unfolding part_in
   items_more h = more L first count i part lt p (λ m. visit_of T mode below m items) st k a X x e h
 
 module _ (T : Tables) (mode : Mode) (below items : ℕ) (L : List ℕ) (first count i part : ℕ) (lt : i < count) (p : part ≡ get_or L (first + i) 0) (X : Outcome) (x : X ≡ items_over (λ m. visit_of T mode below m items) i (slice L (first + i) (count - i))) where
   pub items_on : visit_of T mode below part items ≡ accepted → X ≡ items_over (λ m. visit_of T mode below m items) (i + 1) (slice L (first + (i + 1)) (count - (i + 1)))
-  items_on h = items_more T mode below items L first count i part lt p 0 0 Accepted X x (sym (ap (λ (o : Outcome). told o 0 0) (part_accepted T mode below part items 1 i h))) refl
+  items_on h = items_more T mode below items L first count i part lt p 0 0 (Ok tt) X x (sym (ap (λ (o : Outcome). told o 0 0) (part_accepted T mode below part items 1 i h))) refl

@@ -7,9 +7,8 @@ use native.Mathlib.Omega.{arith}
 use Rattle.error.specs.declared.Mode.{Mode}
 use Rattle.layout.specs.Layout.{Tables, schema_kind, schema_word}
 use Rattle.lookup.specs.Lookup.{answer_of_pattern}
-use Rattle.judge.specs.declared.Verdict.{Verdict}
-use Rattle.judge.specs.declared.Verdict.TheVariants.{Fine, Wrong, BadPattern, Unanswered}
-use Rattle.judge.specs.Judge.{is_fine, boolean_verdict, number_verdict, string_verdict, enum_verdict}
+use Rattle.std.specs.Prelude.{Ok, Err}
+use Rattle.judge.specs.Judge.{Verdict, is_fine, boolean_verdict, number_verdict, string_verdict, enum_verdict}
 use Rattle.schema.specs.Shape.{Note}
 use Rattle.schema.specs.Look.{slice, own_words}
 use Rattle.validator.specs.Outcome.{Outcome, accepted, verdict}
@@ -26,10 +25,8 @@ unfolding Accepts
 says_accepted a h = a h
 
 fine : (v : Verdict) (s : ℕ) (note : Option Note) → is_fine v ≡ true → verdict v s note ≡ accepted
-fine Fine s note h = refl
-fine (Wrong number node d) s note h = absurd (true≢false (sym h))
-fine BadPattern s note h = absurd (true≢false (sym h))
-fine Unanswered s note h = absurd (true≢false (sym h))
+fine (Ok u) s note h = refl
+fine (Err wrong) s note h = absurd (true≢false (sym h))
 
 pub level_over : (level : ℕ) → (level ≡ 0 → ⊥) → level ≡ suc (level - 1)
 level_over level h = omega arith

@@ -7,45 +7,26 @@ use native.Mathlib.Omega.{arith}
 use native.Mathlib.Nat.{zero-add}
 use native.Mathlib.Decide.{dec_lt}
 use lib.Dec.{ltb}
-use lib.ListN.{length, get_or, set, replicate, length-append, length-replicate, get_or-replicate, get_or-append, get_or-eq_default}
-use lib.Seq.{get_or-set_same, get_or-set_other, ext_get_or, get_or-append-add}
+use lib.ListN.{length, get_or, replicate, length-append, length-replicate, get_or-replicate, get_or-append}
+use lib.Seq.{ext_get_or, get_or-append-add}
 use borrow.Author.Tests.{ltb-false}
 use Rattle.text.specs.Choice.{either, pick}
 use Rattle.text.specs.Text.{padded}
 use Rattle.error.specs.declared.Answer.{Answer}
-use Rattle.error.specs.Answers.{plain_answer}
+use Rattle.error.specs.declared.Failure.{Failure}
+use Rattle.error.specs.declared.Failure.TheVariants.{WrongNumber, ShortBuffer}
+use Rattle.error.specs.Answers.{plain_answer, failure_answer}
 use Rattle.error.specs.declared.Mode.{Mode}
 use Rattle.error.specs.Paths.{Step, path_words, instance_buffer, schema_buffer}
 use Rattle.error.proofs.Paths.{path-length}
 use Rattle.layout.specs.Layout.{Tables, most_bytes, node_count, schema_count}
-use Rattle.tables.specs.declared.check.Fault.{Fault}
-use Rattle.tables.specs.declared.check.Fault.TheVariants.{Sound, Bad}
+use Rattle.tables.specs.Found.{Fault}
 use Rattle.tables.specs.Check.{tables_fault}
 use Rattle.tables.proofs.Facts.{well_formed}
-use Rattle.validator.specs.declared.Begun.{Begun}
-use Rattle.validator.specs.declared.Begun.TheVariants.{Answered, Visit}
-use Rattle.validator.specs.declared.paths.Visited.{Visited}
+use Rattle.std.specs.Prelude.{Result, Ok, Err}
 use Rattle.validator.specs.Outcome.{Outcome, accepted, refused, invalid, ended}
 use Rattle.validator.specs.Validate.{Validated, leaving, empty_handed, answered, checked_first, visit_of, validate_of}
-use Rattle.validator.specs.Met.{told, steps_of, kinds_of, Holds, Cleared, Met, sound_or, begun_of, answer_to, steps_told, kinds_told, Finished}
-
--- one more word cleared
-pub clear_more : (from i : ℕ) (xs ys : List ℕ) → from ≤ i → i < length ys → ((j : ℕ) → j < from → get_or ys j 0 ≡ get_or xs j 0) → ((j : ℕ) → from ≤ j → j < i → get_or ys j 0 ≡ 0) → ((j : ℕ) → j < from → get_or (set ys i 0) j 0 ≡ get_or xs j 0) × ((j : ℕ) → from ≤ j → j < i + 1 → get_or (set ys i 0) j 0 ≡ 0)
-clear_more from i xs ys le lt kept zeros =
-    (λ j h. get_or-set_other ys i j 0 0 (λ e. omega arith) ∙ kept j h, λ j h g. at j h g (dec_lt j i))
-  where
-    at : (j : ℕ) → from ≤ j → j < i + 1 → Dec (j < i) → get_or (set ys i 0) j 0 ≡ 0
-    at j h g (yes l) = get_or-set_other ys i j 0 0 (λ e. omega arith) ∙ zeros j h l
-    at j h g (no ge) =
-        let e : j ≡ i = omega arith in
-        ap (λ (q : ℕ). get_or (set ys i 0) q 0) e ∙ get_or-set_same ys i 0 0 lt
-
-pub clear_done : (from i : ℕ) (xs ys : List ℕ) → length ys ≡ length xs → length ys ≤ i → ((j : ℕ) → j < from → get_or ys j 0 ≡ get_or xs j 0) → ((j : ℕ) → from ≤ j → j < i → get_or ys j 0 ≡ 0) → Cleared from xs ys
-clear_done from i xs ys e le kept zeros = record { long = e; kept = kept; zeros = λ j h. at j h (dec_lt j i) }
-  where
-    at : (j : ℕ) → from ≤ j → Dec (j < i) → get_or ys j 0 ≡ 0
-    at j h (yes l) = zeros j h l
-    at j h (no ge) = get_or-eq_default ys 0 (omega arith)
+use Rattle.validator.specs.Met.{Visited, told, steps_of, kinds_of, Holds, Cleared, Met, sound_or, begun_of, answer_to, steps_told, kinds_told, Finished}
 
 -- a buffer that holds p and then zeros
 padded_is : (p ys : List ℕ) (n : ℕ) → length ys ≡ n → length p ≤ n → ((j : ℕ) → j < length p → get_or ys j 0 ≡ get_or p j 0) → ((j : ℕ) → length p ≤ j → get_or ys j 0 ≡ 0) → ys ≡ padded p n
@@ -78,9 +59,9 @@ unfolding instance_buffer schema_buffer
 leaving_is a I S steps kinds i k p q = rw (p, q)
 
 -- answered before the work
-pub stopped : (a : Answer) (I I' S S' : List ℕ) → Cleared 0 I I' → Cleared 0 S S' → ◌≡◌ {A = Validated} (record { answer = a; instance = I'; schema = S' }) (empty_handed a (length I) (length S))
+pub stopped : {r a : Answer} {I I' S S' : List ℕ} → r ≡ a → Cleared 0 I I' → Cleared 0 S S' → ◌≡◌ {A = Validated} (record { answer = r; instance = I'; schema = S' }) (empty_handed a (length I) (length S))
 unfolding path_words
-stopped a I I' S S' ci cs = leaving_is a I' S' [] [] (length I) (length S) (empty I I' ci) (empty S S' cs)
+stopped {r} {a} {I} {I'} {S} {S'} q ci cs = rw q (leaving_is a I' S' [] [] (length I) (length S) (empty I I' ci) (empty S S' cs))
 
 answered_is : (o : Outcome) (i k : ℕ) → answered o i k ≡ leaving (answer_to (told o 0 0)) (steps_of o) (kinds_of o) i k
 answered_is accepted i k = refl
@@ -100,9 +81,6 @@ kinds-told (refused e) = zero-add (length e.kinds)
 kinds-told (invalid p) = refl
 kinds-told (ended n) = refl
 
-pub finish_is : (a b : Visited) (I I' S S' : List ℕ) (r : Answer) → a ≡ b → Finished b I I' S S' r → Finished a I I' S S' r
-finish_is a b I I' S S' r e f = rw e f
-
 -- after the work
 pub finished : (o : Outcome) (I J I' S R S' : List ℕ) (a : Visited) (r : Answer) → Met o true 0 0 I J S R a → 128 ≤ length I → 64 ≤ length S → Finished a J I' R S' r → ◌≡◌ {A = Validated} (record { answer = r; instance = I'; schema = S' }) (answered o (length I) (length S))
 finished o I J I' S R S' a r m li ls f =
@@ -116,26 +94,29 @@ finished o I J I' S R S' a r m li ls f =
     ∙ sym (answered_is o (length I) (length S))
 
 -- ---- before and after the start of the work
-abbrev on_begun : Begun → ℕ → ℕ → Validated → Validated
-on_begun (Answered a) i k rest = empty_handed a i k
-on_begun Visit i k rest = rest
+abbrev Begun : Type 0
+Begun = Result Unit Failure
 
-begun_cases : (f : Fault) (b c d : Bool) (i k : ℕ) (rest : Validated) → checked_first f i k (pick b (pick c (pick d (empty_handed (plain_answer 22) i k) rest) (empty_handed (plain_answer 21) i k)) (empty_handed (plain_answer 21) i k)) ≡ on_begun (sound_or f (pick b (pick c (pick d (Answered (plain_answer 22)) Visit) (Answered (plain_answer 21))) (Answered (plain_answer 21)))) i k rest
-begun_cases (Bad table n) b c d i k rest = refl
-begun_cases Sound false c d i k rest = refl
-begun_cases Sound true false d i k rest = refl
-begun_cases Sound true true true i k rest = refl
-begun_cases Sound true true false i k rest = refl
+abbrev on_begun : Begun → ℕ → ℕ → Validated → Validated
+on_begun (Err f) i k rest = empty_handed (failure_answer f) i k
+on_begun (Ok _) i k rest = rest
+
+begun_cases : (f : Fault) (b c d : Bool) (i k : ℕ) (rest : Validated) → checked_first f i k (pick b (pick c (pick d (empty_handed (plain_answer 22) i k) rest) (empty_handed (plain_answer 21) i k)) (empty_handed (plain_answer 21) i k)) ≡ on_begun (sound_or f (pick b (pick c (pick d (Err ShortBuffer) (Ok tt)) (Err WrongNumber)) (Err WrongNumber))) i k rest
+begun_cases (Err failure) b c d i k rest = refl
+begun_cases (Ok u) false c d i k rest = refl
+begun_cases (Ok u) true false d i k rest = refl
+begun_cases (Ok u) true true true i k rest = refl
+begun_cases (Ok u) true true false i k rest = refl
 
 module _ (T : Tables) (mode : Mode) (n s i k : ℕ) (b : Begun) (e : b ≡ begun_of T n s i k) where
   validate_is : validate_of T mode n s i k ≡ on_begun b i k (answered (visit_of T mode 64 n s) i k)
   unfolding validate_of begun_of
   validate_is = begun_cases (tables_fault T) (ltb n (node_count T.nodes)) (ltb s (schema_count T.schemas)) (either (ltb i 128) (ltb k 64)) i k (answered (visit_of T mode 64 n s) i k) ∙ ap (λ (x : Begun). on_begun x i k (answered (visit_of T mode 64 n s) i k)) (sym e)
 
-  pub validate_stop : (a : Answer) → b ≡ Answered a → validate_of T mode n s i k ≡ empty_handed a i k
-  validate_stop a h = validate_is ∙ rw h
+  pub validate_stop : (f : Failure) → b ≡ Err f → validate_of T mode n s i k ≡ empty_handed (failure_answer f) i k
+  validate_stop f h = validate_is ∙ rw h
 
-  pub validate_work : b ≡ Visit → validate_of T mode n s i k ≡ answered (visit_of T mode 64 n s) i k
+  pub validate_work : b ≡ Ok tt → validate_of T mode n s i k ≡ answered (visit_of T mode 64 n s) i k
   validate_work h = validate_is ∙ rw h
 
 -- what is known where the work starts
@@ -144,19 +125,19 @@ pub record Started (T : Tables) (i k : ℕ) : Type 0 where
   pub schema : 64 ≤ k
   pub bytes : length T.pool ≤ most_bytes
 
-start_cases : (T : Tables) (f : Fault) (b c x y : Bool) (i k : ℕ) → f ≡ tables_fault T → x ≡ ltb i 128 → y ≡ ltb k 64 → Visit ≡ sound_or f (pick b (pick c (pick (either x y) (Answered (plain_answer 22)) Visit) (Answered (plain_answer 21))) (Answered (plain_answer 21))) → Started T i k
-start_cases T (Bad table n) b c x y i k e p q h = absurd (let z : ◌≡◌ {A = ℕ} 0 1 = cc in omega arith)
-start_cases T Sound false c x y i k e p q h = absurd (let z : ◌≡◌ {A = ℕ} 0 1 = cc in omega arith)
-start_cases T Sound true false x y i k e p q h = absurd (let z : ◌≡◌ {A = ℕ} 0 1 = cc in omega arith)
-start_cases T Sound true true true y i k e p q h = absurd (let z : ◌≡◌ {A = ℕ} 0 1 = cc in omega arith)
-start_cases T Sound true true false true i k e p q h = absurd (let z : ◌≡◌ {A = ℕ} 0 1 = cc in omega arith)
-start_cases T Sound true true false false i k e p q h =
+start_cases : (T : Tables) (f : Fault) (b c x y : Bool) (i k : ℕ) → f ≡ tables_fault T → x ≡ ltb i 128 → y ≡ ltb k 64 → Ok tt ≡ sound_or f (pick b (pick c (pick (either x y) (Err ShortBuffer) (Ok tt)) (Err WrongNumber)) (Err WrongNumber)) → Started T i k
+start_cases T (Err failure) b c x y i k e p q h = absurd (let z : ◌≡◌ {A = ℕ} 0 1 = cc in omega arith)
+start_cases T (Ok u) false c x y i k e p q h = absurd (let z : ◌≡◌ {A = ℕ} 0 1 = cc in omega arith)
+start_cases T (Ok u) true false x y i k e p q h = absurd (let z : ◌≡◌ {A = ℕ} 0 1 = cc in omega arith)
+start_cases T (Ok u) true true true y i k e p q h = absurd (let z : ◌≡◌ {A = ℕ} 0 1 = cc in omega arith)
+start_cases T (Ok u) true true false true i k e p q h = absurd (let z : ◌≡◌ {A = ℕ} 0 1 = cc in omega arith)
+start_cases T (Ok u) true true false false i k e p q h =
     record {
       instance = ltb-false i 128 (sym p);
       schema = ltb-false k 64 (sym q);
       bytes = (well_formed T (sym e)).sized.pool;
     }
 
-pub started : (T : Tables) (n s i k : ℕ) (b : Begun) → b ≡ begun_of T n s i k → b ≡ Visit → Started T i k
+pub started : (T : Tables) (n s i k : ℕ) (b : Begun) → b ≡ begun_of T n s i k → b ≡ Ok tt → Started T i k
 unfolding begun_of
 started T n s i k b e h = start_cases T (tables_fault T) (ltb n (node_count T.nodes)) (ltb s (schema_count T.schemas)) (ltb i 128) (ltb k 64) i k refl refl refl (sym h ∙ e)

@@ -1,5 +1,5 @@
 -- What the members of the visit leave, against what the definition finds: the contracts of the cycle. Assumes nothing.
-use Rattle.std.specs.Prelude.{ℕ, ◌+◌, ◌*◌, ◌≤◌, ◌<◌, ◌≡◌, Bool, true, false, List, [], ◌∷◌, length, get_or, set, eqb, ltb}
+use Rattle.std.specs.Prelude.{ℕ, ◌+◌, ◌*◌, ◌≤◌, ◌<◌, ◌≡◌, Bool, true, false, List, [], ◌∷◌, length, get_or, set, eqb, ltb, Result, Ok, Err}
 use Rattle.std.proofs.Math.Option.{Option, none}
 use Rattle.text.specs.Choice.{either, pick}
 use Rattle.error.specs.declared.Mode.{Mode}
@@ -9,31 +9,34 @@ use Rattle.schema.specs.Shape.{Note, Object, Shape, plain, any_of, all_of, array
 use Rattle.schema.specs.Look.{words_of, look, raw, detecting, note_at, list_of, array_of, object_of, optional, sort_object}
 use Rattle.error.specs.declared.Answer.{Answer}
 use Rattle.error.specs.declared.Detail.TheVariants.{Empty}
-use Rattle.error.specs.Answers.{NONE, plain_answer, bad_table, refusal_of}
-use Rattle.lookup.specs.declared.Found.{Found}
-use Rattle.lookup.specs.declared.Found.TheVariants.{At, Nothing}
+use Rattle.error.specs.declared.Failure.{Failure}
+use Rattle.error.specs.declared.Failure.TheVariants.{WrongNumber, ShortBuffer}
+use Rattle.error.specs.Answers.{NONE, plain_answer, refusal_of}
+use Rattle.lookup.specs.Find.{Found}
+use Rattle.std.specs.Prelude.{Some, None}
 use Rattle.lookup.specs.Lookup.{entry_key, property_place, property_of, answer_of_pattern, find_in}
-use Rattle.judge.specs.declared.Verdict.{Verdict}
-use Rattle.judge.specs.declared.Verdict.TheVariants.{Fine}
-use Rattle.judge.specs.Judge.{key_text}
-use Rattle.tables.specs.declared.check.Fault.{Fault}
-use Rattle.tables.specs.Check.{on_fault, tables_fault}
-use Rattle.validator.specs.declared.Begun.{Begun}
-use Rattle.validator.specs.declared.Begun.TheVariants.{Answered, Visit}
+use Rattle.judge.specs.Judge.{Verdict, fine, key_text}
+use Rattle.tables.specs.Found.{Fault, on_fault}
+use Rattle.tables.specs.Check.{tables_fault}
 use Rattle.validator.specs.declared.walk.Choice.{Choice}
 use Rattle.validator.specs.declared.walk.Choice.TheVariants.{Part, Closed, Skip}
-use Rattle.validator.specs.declared.paths.Visited.{Visited}
-use Rattle.validator.specs.declared.paths.Visited.TheVariants.{Accepted, Refused, Invalid, Ended}
+use Rattle.validator.specs.declared.paths.Paths.{Paths}
+use Rattle.validator.specs.declared.paths.Trail.{Trail}
+use Rattle.validator.specs.declared.paths.Stop.{Stop}
+use Rattle.validator.specs.declared.paths.Stop.TheVariants.{Refused, Invalid, Ended}
 use Rattle.validator.specs.Outcome.{Outcome, accepted, refused, invalid, ended, place, and_then, verdict}
 use Rattle.validator.specs.Visit.{Nodes, any_over, all_over, array_at, object_at, entries_over, entry_at, ref_at}
 use Rattle.validator.specs.Nodes.{nodes_of, entry_of, entries_from}
 use Rattle.validator.specs.Validate.{instance_words, schema_step_words, visit_of}
 
 -- ---- outcomes, as the code has them: the counts of both paths start at those of the visited place
+abbrev pub Visited : Type 0
+Visited = Result Unit Stop
+
 abbrev pub told : Outcome → ℕ → ℕ → Visited
-told accepted s k = Accepted
+told accepted s k = Ok tt
 told (refused e) s k =
-    Refused (record {
+    Err (Refused (record {
       number = e.number;
       node = e.node;
       schema = e.schema;
@@ -41,9 +44,9 @@ told (refused e) s k =
       detail = e.detail;
       steps = s + length e.steps;
       kinds = k + length e.kinds;
-    })
-told (invalid p) s k = Invalid (s + length p)
-told (ended n) s k = Ended n
+    }))
+told (invalid p) s k = Err (Invalid (s + length p))
+told (ended n) s k = Err (Ended n)
 
 -- the steps of either path that an outcome leaves
 abbrev pub steps_of : Outcome → List Step
@@ -60,30 +63,30 @@ kinds_of (ended n) = []
 
 -- which outcomes leave an instance step, and which a schema step
 abbrev pub leaves_step : Visited → Bool
-leaves_step Accepted = false
-leaves_step (Refused e) = true
-leaves_step (Invalid n) = true
-leaves_step (Ended n) = false
+leaves_step (Ok _) = false
+leaves_step (Err (Refused e)) = true
+leaves_step (Err (Invalid n)) = true
+leaves_step (Err (Ended n)) = false
 
 abbrev pub leaves_kind : Visited → Bool
-leaves_kind Accepted = false
-leaves_kind (Refused e) = true
-leaves_kind (Invalid n) = false
-leaves_kind (Ended n) = false
+leaves_kind (Ok _) = false
+leaves_kind (Err (Refused e)) = true
+leaves_kind (Err (Invalid n)) = false
+leaves_kind (Err (Ended n)) = false
 
 -- a word at its place; two words of a step at theirs
-unfoldable pub mark_in : Bool → List ℕ → ℕ → ℕ → List ℕ
+abbrev pub mark_in : Bool → List ℕ → ℕ → ℕ → List ℕ
 mark_in on xs at w = pick on (set xs at w) xs
 
-unfoldable pub pair_in : Bool → List ℕ → ℕ → ℕ → ℕ → List ℕ
+abbrev pub pair_in : Bool → List ℕ → ℕ → ℕ → ℕ → List ℕ
 pair_in on xs at tag w = pick on (set (set xs (at * 2 + 1) w) (at * 2) tag) xs
 
 -- alternatives after the first error: one that accepts or ends everything decides, else that error stays
 abbrev pub or_later : Outcome → Visited → Visited
-or_later accepted rest = Accepted
+or_later accepted rest = Ok tt
 or_later (refused e) rest = rest
 or_later (invalid p) rest = rest
-or_later (ended n) rest = Ended n
+or_later (ended n) rest = Err (Ended n)
 
 unfoldable pub lastly : (ℕ → Outcome) → Visited → List ℕ → Visited
 lastly go best [] = best
@@ -93,9 +96,9 @@ lastly go best (x ∷ xs) =
 
 -- property, else closed, else additional
 abbrev pub choice_of : Found → Bool → ℕ → Choice
-choice_of (At x) closed more = Part x
-choice_of Nothing true more = Closed
-choice_of Nothing false more = pick (eqb more NONE) Skip (Part more)
+choice_of (Some x) closed more = Part x
+choice_of None true more = Closed
+choice_of None false more = pick (eqb more NONE) Skip (Part more)
 
 unfoldable pub chosen_in : List ℕ → List ℕ → List ℕ → List ℕ → ℕ → ℕ → Choice
 chosen_in pool texts schemas links s t =
@@ -108,7 +111,7 @@ unfoldable pub entry_place : List ℕ → List ℕ → List ℕ → List ℕ →
 entry_place pool texts nodes schemas links n s k =
     pick (eqb (node_kind nodes (entry_key nodes links n k)) 4)
     (property_place pool texts links (properties_first schemas s) (properties_count schemas s) (key_text nodes links n k))
-    Nothing
+    None
 
 -- ---- what each member finds, with `below` levels left for the parts
 module _ (T : Tables) (mode : Mode) where
@@ -170,7 +173,7 @@ Accepts r o = r ≡ true → o ≡ accepted
 
 -- true where that verdict is fine, and the outcome accepted; false says nothing
 unfoldable pub AcceptsAll : Bool → Verdict → Outcome → Type 0
-AcceptsAll r v o = r ≡ true → (v ≡ Fine) × (o ≡ accepted)
+AcceptsAll r v o = r ≡ true → (v ≡ fine) × (o ≡ accepted)
 
 -- ---- buffers
 -- the words of p stand in xs from `at` on
@@ -190,6 +193,11 @@ pub record Cleared (from : ℕ) (xs ys : List ℕ) : Type 0 where
   pub zeros : (j : ℕ) → from ≤ j → get_or ys j 0 ≡ 0
 
 -- ---- contracts
+-- the same two buffers are lent on
+pub record Same (P Q : Paths) : Type 0 where
+  pub instance : Q.instance.ghost_name ≡ P.instance.ghost_name
+  pub schema : Q.schema.ghost_name ≡ P.schema.ghost_name
+
 pub record Met (o : Outcome) (log : Bool) (s k : ℕ) (I I' S S' : List ℕ) (r : Visited) : Type 0 where
   pub answer : r ≡ told o s k
   pub few_i : s + length (steps_of o) ≤ 64
@@ -199,32 +207,40 @@ pub record Met (o : Outcome) (log : Bool) (s k : ℕ) (I I' S S' : List ℕ) (r 
   pub path_i : log ≡ true → Holds I' (s * 2) (path_words (steps_of o))
   pub path_s : log ≡ true → Holds S' k (kinds_of o)
 
+-- where a call begins
+abbrev pub start : Trail
+start = record { log = true; steps = 0; kinds = 0 }
+
+-- ... of both paths, as they are lent on
+abbrev pub Meets : Outcome → Trail → Paths → Paths → Visited → Type 0
+Meets o t P Q r = Met o t.log t.steps t.kinds P.instance.now Q.instance.now P.schema.now Q.schema.now r
+
 -- every level left may add a step to either path
-pub record Room (s k level : ℕ) (I S P : List ℕ) : Type 0 where
-  pub i_room : s + level ≤ 64
-  pub s_room : k + level ≤ 64
-  pub i_long : 128 ≤ length I
-  pub s_long : 64 ≤ length S
+pub record Room (t : Trail) (level : ℕ) (Q : Paths) (P : List ℕ) : Type 0 where
+  pub i_room : t.steps + level ≤ 64
+  pub s_room : t.kinds + level ≤ 64
+  pub i_long : 128 ≤ length Q.instance.now
+  pub s_long : 64 ≤ length Q.schema.now
   pub bytes : length P ≤ most_bytes
 
 -- ... and the place visited now one to the instance path
-pub record Deep (s k below : ℕ) (I S P : List ℕ) : Type 0 where
-  pub i_room : s + below < 64
-  pub s_room : k + below ≤ 64
-  pub i_long : 128 ≤ length I
-  pub s_long : 64 ≤ length S
+pub record Deep (t : Trail) (below : ℕ) (Q : Paths) (P : List ℕ) : Type 0 where
+  pub i_room : t.steps + below < 64
+  pub s_room : t.kinds + below ≤ 64
+  pub i_long : 128 ≤ length Q.instance.now
+  pub s_long : 64 ≤ length Q.schema.now
   pub bytes : length P ≤ most_bytes
 
-pub record Late (s k below from count : ℕ) (I S P : List ℕ) : Type 0 where
-  pub deep : Deep s k below I S P
+pub record Late (t : Trail) (below from count : ℕ) (Q : Paths) (P : List ℕ) : Type 0 where
+  pub deep : Deep t below Q P
   pub within : from ≤ count
 
-pub record Stepping (s k below tag : ℕ) (I S P : List ℕ) : Type 0 where
-  pub deep : Deep s k below I S P
+pub record Stepping (t : Trail) (below tag : ℕ) (Q : Paths) (P : List ℕ) : Type 0 where
+  pub deep : Deep t below Q P
   pub tagged : tag < 2
 
-pub record Inside (s k below : ℕ) (I S P : List ℕ) (kind own : ℕ) : Type 0 where
-  pub deep : Deep s k below I S P
+pub record Inside (t : Trail) (below : ℕ) (Q : Paths) (P : List ℕ) (kind own : ℕ) : Type 0 where
+  pub deep : Deep t below Q P
   pub told : kind ≡ own
   pub small : kind ≤ 10
 
@@ -236,36 +252,36 @@ pub record Later (o : Visited) (I I' S S' : List ℕ) (r : Visited) : Type 0 whe
 
 -- ---- the public entry
 -- 20, 21 node, 21 schema, 22, then the work
-abbrev pub sound_or : Fault → Begun → Begun
-sound_or f rest = on_fault f (λ table n. Answered (bad_table table n)) rest
+abbrev pub sound_or : Fault → Result Unit Failure → Result Unit Failure
+sound_or f rest = on_fault f Err rest
 
-unfoldable pub begun_of : Tables → ℕ → ℕ → ℕ → ℕ → Begun
+unfoldable pub begun_of : Tables → ℕ → ℕ → ℕ → ℕ → Result Unit Failure
 begun_of T n s i k =
     sound_or (tables_fault T)
     (pick (ltb n (node_count T.nodes))
     (pick (ltb s (schema_count T.schemas))
-    (pick (either (ltb i instance_words) (ltb k schema_step_words)) (Answered (plain_answer 22)) Visit)
-    (Answered (plain_answer 21)))
-    (Answered (plain_answer 21)))
+    (pick (either (ltb i instance_words) (ltb k schema_step_words)) (Err ShortBuffer) (Ok tt))
+    (Err WrongNumber))
+    (Err WrongNumber))
 
 -- the answer to what was found, and how many steps its paths have
 abbrev pub answer_to : Visited → Answer
-answer_to Accepted = plain_answer 0
-answer_to (Refused e) = refusal_of e.number e.node e.schema e.hint e.detail e.steps e.kinds
-answer_to (Invalid n) = refusal_of 14 NONE NONE NONE Empty n 0
-answer_to (Ended n) = plain_answer n
+answer_to (Ok _) = plain_answer 0
+answer_to (Err (Refused e)) = refusal_of e.number e.node e.schema e.hint e.detail e.steps e.kinds
+answer_to (Err (Invalid n)) = refusal_of 14 NONE NONE NONE Empty n 0
+answer_to (Err (Ended n)) = plain_answer n
 
 abbrev pub steps_told : Visited → ℕ
-steps_told Accepted = 0
-steps_told (Refused e) = e.steps
-steps_told (Invalid n) = n
-steps_told (Ended n) = 0
+steps_told (Ok _) = 0
+steps_told (Err (Refused e)) = e.steps
+steps_told (Err (Invalid n)) = n
+steps_told (Err (Ended n)) = 0
 
 abbrev pub kinds_told : Visited → ℕ
-kinds_told Accepted = 0
-kinds_told (Refused e) = e.kinds
-kinds_told (Invalid n) = 0
-kinds_told (Ended n) = 0
+kinds_told (Ok _) = 0
+kinds_told (Err (Refused e)) = e.kinds
+kinds_told (Err (Invalid n)) = 0
+kinds_told (Err (Ended n)) = 0
 
 pub record Finished (a : Visited) (I I' S S' : List ℕ) (r : Answer) : Type 0 where
   pub answer : r ≡ answer_to a

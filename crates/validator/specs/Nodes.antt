@@ -5,7 +5,7 @@ use Rattle.text.specs.Choice.{pick}
 use Rattle.text.specs.Text.{same_text}
 use Rattle.error.specs.declared.Mode.{Mode}
 use Rattle.layout.specs.Layout.{Tables, node_kind, node_a, node_b}
-use Rattle.lookup.specs.declared.Found.{Found}
+use Rattle.lookup.specs.Find.{Found}
 use Rattle.lookup.specs.Lookup.{entry_key, entry_value}
 use Rattle.judge.specs.Judge.{judge_of, size_verdict, object_verdict, has_key, items_of}
 use Rattle.validator.specs.Visit.{Nodes, Entry}

@@ -3,10 +3,11 @@
 use Rattle.std.specs.Prelude.{ℕ, List, [], ◌∷◌}
 use Rattle.std.proofs.Math.Option.{Option, some, none}
 use Rattle.error.specs.declared.Detail.{Detail}
-use Rattle.error.specs.Answers.{NONE}
+use Rattle.error.specs.Answers.{NONE, reason_number}
 use Rattle.error.specs.Paths.{Step}
-use Rattle.judge.specs.declared.Verdict.{Verdict}
-use Rattle.judge.specs.declared.Verdict.TheVariants.{Fine, Wrong, BadPattern, Unanswered}
+use Rattle.std.specs.Prelude.{Ok, Err}
+use Rattle.judge.specs.declared.Wrong.TheVariants.{Value, BadPattern, Unanswered}
+use Rattle.judge.specs.Judge.{Verdict}
 use Rattle.schema.specs.Shape.{Note}
 
 pub record Error : Type 0 where
@@ -103,7 +104,7 @@ any_step (invalid p) best rest = rest best
 any_step (ended n) best rest = ended n
 
 abbrev pub verdict : Verdict → ℕ → Option Note → Outcome
-verdict Fine schema _ = accepted
-verdict (Wrong number node detail) schema note = refused (made number node schema note detail)
-verdict BadPattern schema _ = invalid []
-verdict Unanswered schema _ = ended 24
+verdict (Ok u) schema _ = accepted
+verdict (Err (Value why node detail)) schema note = refused (made (reason_number why) node schema note detail)
+verdict (Err BadPattern) schema _ = invalid []
+verdict (Err Unanswered) schema _ = ended 24

@@ -5,12 +5,12 @@ use Rattle.text.specs.Choice.{either, pick}
 use Rattle.error.specs.declared.Answer.{Answer}
 use Rattle.error.specs.declared.Mode.{Mode}
 use Rattle.error.specs.declared.Detail.TheVariants.{Empty}
-use Rattle.error.specs.Answers.{NONE, plain_answer, bad_table, refusal_of}
+use Rattle.error.specs.Answers.{NONE, plain_answer, failure_answer, refusal_of}
 use Rattle.error.specs.Paths.{levels, Step, instance_buffer, schema_buffer}
 use Rattle.layout.specs.Layout.{Tables, node_count, schema_count}
 use Rattle.lookup.specs.Lookup.{find_in, answer_of_pattern}
-use Rattle.tables.specs.declared.check.Fault.{Fault}
-use Rattle.tables.specs.Check.{on_fault, tables_fault}
+use Rattle.tables.specs.Found.{Fault, on_fault}
+use Rattle.tables.specs.Check.{tables_fault}
 use Rattle.schema.specs.Look.{words_of, look}
 use Rattle.validator.specs.Outcome.{Outcome, accepted, refused, invalid, ended}
 use Rattle.validator.specs.Visit.{visit_at}
@@ -49,7 +49,7 @@ answered (invalid steps) i k = leaving (refusal_of 14 NONE NONE NONE Empty (leng
 answered (ended number) i k = empty_handed (plain_answer number) i k
 
 abbrev pub checked_first : Fault → ℕ → ℕ → Validated → Validated
-checked_first f i k rest = on_fault f (λ table n. empty_handed (bad_table table n) i k) rest
+checked_first f i k rest = on_fault f (λ failure. empty_handed (failure_answer failure) i k) rest
 
 -- for buffers of i and k words
 unfoldable pub validate_of : Tables → Mode → ℕ → ℕ → ℕ → ℕ → Validated

@@ -5,8 +5,8 @@ use Rattle.std.proofs.Math.Option.{Option, some, none}
 use Rattle.text.specs.Choice.{pick}
 use Rattle.error.specs.declared.Detail.TheVariants.{Property, Key, Reference}
 use Rattle.error.specs.Answers.{NONE}
-use Rattle.judge.specs.declared.Verdict.{Verdict}
 use Rattle.error.specs.Paths.{key_step, item_step}
+use Rattle.judge.specs.Judge.{Verdict}
 use Rattle.schema.specs.Shape.{Note, Pair, Own, Object, Shape, plain, any_of, all_of, array, object, ref}
 use Rattle.validator.specs.Outcome.{Error, Outcome, accepted, refused, ended, made, under, place, and_then, any_end, any_step, verdict}
 

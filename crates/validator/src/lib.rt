@@ -6,174 +6,115 @@ mod quick;
 mod walk;
 
 ghost use Rattle.std.specs.Prelude.{◌≡◌, length};
-ghost use Rattle.layout.specs.Layout.{tables};
+ghost use Rattle.layout.specs.Lent.{tables_of};
 ghost use Rattle.error.specs.declared.Mode.TheVariants as mode_of;
 ghost use Rattle.validator.specs.Validate.{validate_of};
-ghost use Rattle.validator.specs.Met.{begun_of, Finished};
+ghost use Rattle.validator.specs.Met.{begun_of, Finished, Same};
 
-use error::{Answer, Detail, Mode, NONE};
-use paths::Visited;
-use tables::check::Fault;
-
-// What comes before the work: an answer, or the work.
-#[derive(Clone, Copy)]
-pub enum Begun {
-    Answered(Answer),
-    Visit,
-}
+use error::{Answer, Detail, Failure, Mode, NONE, Reason};
+use layout::Tables;
+use paths::{Paths, Stop};
 
 // Answers 20, 21 and 22, in this order.
 fn begin(
-    pool: &[u8],
-    texts: &[u32],
-    nodes: &[u32],
-    notes: &[u32],
-    schemas: &[u32],
-    registry: &[u32],
-    patterns: &[u32],
-    links: &[u32],
-    numbers: &[u64],
+    t: &Tables,
     node: u32,
     schema: u32,
     instance_words: usize,
     schema_words: usize,
-) -> Begun
-    ensures { result ≡ begun_of (tables pool.now texts.now nodes.now notes.now schemas.now registry.now patterns.now links.now numbers.now) node schema instance_words schema_words }
+) -> Result<(), Failure>
+    ensures { result ≡ begun_of (tables_of t.now) node schema instance_words schema_words }
 {
-    let fault = tables::check::check_tables(
-        pool, texts, nodes, notes, schemas, registry, patterns, links, numbers,
-    );
-    match fault {
-        Fault::Bad { table, record } => Begun::Answered(error::bad_table(table, record)),
-        Fault::Sound => {
-            if layout::words::node_count(nodes) <= (node as usize) {
-                return Begun::Answered(error::plain(21));
-            }
-            if layout::words::schema_count(schemas) <= (schema as usize) {
-                return Begun::Answered(error::plain(21));
-            }
-            if instance_words < error::INSTANCE_WORDS {
-                return Begun::Answered(error::plain(22));
-            }
-            if schema_words < error::SCHEMA_STEP_WORDS {
-                return Begun::Answered(error::plain(22));
-            }
-            Begun::Visit
+    tables::check::check_tables(t)?;
+    if t.node_count() <= (node as usize) {
+        return Err(Failure::WrongNumber);
+    }
+    if t.schema_count() <= (schema as usize) {
+        return Err(Failure::WrongNumber);
+    }
+    if instance_words < error::INSTANCE_WORDS || schema_words < error::SCHEMA_STEP_WORDS {
+        return Err(Failure::ShortBuffer);
+    }
+    Ok(())
+}
+
+// The answer to what was found; what lies behind both paths is cleared.
+fn finish(found: Result<(), Stop>, paths: &mut Paths) -> Answer
+    ensures same { Same paths.old paths.new }
+    ensures finished { Finished found paths.old.instance.now paths.new.instance.now
+        paths.old.schema.now paths.new.schema.now result }
+{
+    match found {
+        Ok(()) => {
+            paths.clear(0, 0);
+            error::plain(0)
+        }
+        Err(Stop::Refused(e)) => {
+            paths.clear(e.steps, e.kinds);
+            error::refusal(
+                e.number, e.node, e.schema, e.hint, e.detail, e.steps, e.kinds,
+            )
+        }
+        Err(Stop::Invalid(steps)) => {
+            paths.clear(steps, 0);
+            error::refusal(
+                Reason::InvalidPattern.number(),
+                NONE,
+                NONE,
+                NONE,
+                Detail::Empty,
+                steps,
+                0,
+            )
+        }
+        Err(Stop::Ended(number)) => {
+            paths.clear(0, 0);
+            error::plain(number)
         }
     }
 }
 
-// The answer to what was found; what lies behind both paths is cleared.
-fn finish(found: Visited, ipath: &mut [u32], spath: &mut [u32]) -> Answer
-    ensures { Finished found ipath.old ipath.new spath.old spath.new result }
+// The answers before the work, then the work; either leaves zeros behind both paths.
+fn validate_into(t: &Tables, mode: Mode, node: u32, schema: u32, paths: &mut Paths) -> Answer
+    ensures same { Same paths.old paths.new }
+    ensures validated { record
+        { answer = result; instance = paths.new.instance.now; schema = paths.new.schema.now } ≡
+        validate_of (tables_of t.now) mode node schema (length paths.old.instance.now)
+        (length paths.old.schema.now) }
 {
-    match found {
-        Visited::Refused(e) => {
-            let detail = e.detail;
-            paths::clear(ipath, (e.steps as usize) * 2);
-            paths::clear(spath, e.kinds as usize);
-            error::refusal(e.number, e.node, e.schema, e.hint, detail, e.steps, e.kinds)
-        }
-        Visited::Invalid(steps) => {
-            paths::clear(ipath, (steps as usize) * 2);
-            paths::clear(spath, 0);
-            error::refusal(14, NONE, NONE, NONE, Detail::Empty, steps, 0)
-        }
-        Visited::Ended(number) => {
-            paths::clear(ipath, 0);
-            paths::clear(spath, 0);
-            error::plain(number)
-        }
-        Visited::Accepted => {
-            paths::clear(ipath, 0);
-            paths::clear(spath, 0);
-            error::plain(0)
-        }
+    let begun = begin(t, node, schema, paths.instance.len(), paths.schema.len());
+    if let Err(failure) = begun {
+        paths.clear(0, 0);
+        return error::failed(failure);
     }
+    let found = walk::first_visit(mode, t, paths, 64, node, schema);
+    finish(found, paths)
 }
 
 // A value against a schema, in a mode. Both paths are left in the buffers, with zeros behind.
 pub fn validate_mode(
-    pool: &[u8],
-    texts: &[u32],
-    nodes: &[u32],
-    notes: &[u32],
-    schemas: &[u32],
-    registry: &[u32],
-    patterns: &[u32],
-    links: &[u32],
-    numbers: &[u64],
+    t: &Tables,
     mode: Mode,
     node: u32,
     schema: u32,
     ipath: &mut [u32],
     spath: &mut [u32],
 ) -> Answer
-    ensures { record { answer = result; instance = ipath.new; schema = spath.new } ≡ validate_of (tables pool.now texts.now nodes.now notes.now schemas.now registry.now patterns.now links.now numbers.now) mode node schema (length ipath.old) (length spath.old) }
+    ensures { record { answer = result; instance = ipath.new; schema = spath.new } ≡
+        validate_of (tables_of t.now) mode node schema (length ipath.old) (length spath.old) }
 {
-    let begun = begin(
-        pool,
-        texts,
-        nodes,
-        notes,
-        schemas,
-        registry,
-        patterns,
-        links,
-        numbers,
-        node,
-        schema,
-        ipath.len(),
-        spath.len(),
-    );
-    match begun {
-        Begun::Answered(answer) => {
-            paths::clear(ipath, 0);
-            paths::clear(spath, 0);
-            answer
-        }
-        Begun::Visit => {
-            let found = walk::first_visit(
-                mode, pool, texts, nodes, notes, schemas, registry, patterns, links, numbers,
-                ipath, spath, 64, node, schema,
-            );
-            finish(found, ipath, spath)
-        }
-    }
+    let mut paths = Paths {
+        instance: ipath,
+        schema: spath,
+    };
+    validate_into(t, mode, node, schema, &mut paths)
 }
 
 // The same in source mode.
-pub fn validate(
-    pool: &[u8],
-    texts: &[u32],
-    nodes: &[u32],
-    notes: &[u32],
-    schemas: &[u32],
-    registry: &[u32],
-    patterns: &[u32],
-    links: &[u32],
-    numbers: &[u64],
-    node: u32,
-    schema: u32,
-    ipath: &mut [u32],
-    spath: &mut [u32],
-) -> Answer
-    ensures { record { answer = result; instance = ipath.new; schema = spath.new } ≡ validate_of (tables pool.now texts.now nodes.now notes.now schemas.now registry.now patterns.now links.now numbers.now) mode_of.Source node schema (length ipath.old) (length spath.old) }
+pub fn validate(t: &Tables, node: u32, schema: u32, ipath: &mut [u32], spath: &mut [u32]) -> Answer
+    ensures { record { answer = result; instance = ipath.new; schema = spath.new } ≡
+        validate_of (tables_of t.now) mode_of.Source node schema (length ipath.old)
+        (length spath.old) }
 {
-    validate_mode(
-        pool,
-        texts,
-        nodes,
-        notes,
-        schemas,
-        registry,
-        patterns,
-        links,
-        numbers,
-        Mode::Source,
-        node,
-        schema,
-        ipath,
-        spath,
-    )
+    validate_mode(t, Mode::Source, node, schema, ipath, spath)
 }

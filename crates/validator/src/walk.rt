@@ -1,7 +1,11 @@
-// The visit and its parts. Each level writes its own step at its own place, on the way out and only while `log` says so.
-ghost use Rattle.std.specs.Prelude.{◌≡◌, true, ◌+◌, ◌-◌, get_or};
-ghost use Rattle.layout.specs.Layout.{tables, schema_kind};
+// The visit and its parts. Each level writes its own step at its own place, on the way out and only while its trail is logged.
+// Mode, tables, paths and trail go side by side: the definitions take them apart, and one value of all four would keep the paths borrowed.
+// What a member asks is one predicate by name: it relates trail, level, paths and pool, of which none holds the others.
+ghost use Rattle.std.specs.Prelude.{◌≡◌, ◌+◌, ◌-◌, Err};
+ghost use Rattle.layout.specs.Lent.{tables_of};
+ghost use Rattle.layout.specs.Layout.{schema_kind};
 ghost use Rattle.schema.specs.Look.{slice};
+ghost use Rattle.validator.specs.declared.paths.Stop.TheVariants.{Refused};
 ghost use Rattle.validator.specs.Validate.{visit_of};
 ghost use Rattle.validator.specs.Met.{
   lastly,
@@ -14,23 +18,23 @@ ghost use Rattle.validator.specs.Met.{
   ref_in,
   part_in,
   inner_in,
-  Met,
+  Meets,
   Room,
   Deep,
   Late,
   Stepping,
   Inside,
   Later,
+  Same,
+  start,
 };
 
-use crate::paths::Visited;
-use crate::{paths, quick};
-use error::{Detail, Mode, NONE};
-use judge::Verdict;
-use layout::{schema as fields, words};
-use lookup::Found;
+use crate::paths::{Paths, Refusal, Stop, Trail, judged, refuse};
+use crate::quick;
+use error::{Detail, Failure, Mode, NONE, Reason};
+use layout::{Tables, kind, node};
 
-// What an object's entry with a string key is asked: to meet a schema, not to be there, or nothing.
+// What an object's entry with a string key is asked: to meet a schema, not to be there, or nothing. Three cases, so no `Option`.
 #[derive(Clone, Copy)]
 pub enum Choice {
     Part(u32),
@@ -38,26 +42,20 @@ pub enum Choice {
     Skip,
 }
 
-// The word of a list in the links.
-fn link(links: &[u32], first: u32, i: u32) -> u32
-    ensures { result ≡ get_or links.now (first + i) 0 }
-{
-    text::word(links, (first as usize) + (i as usize))
-}
-
 // The property of that name, else closed, else additional.
-fn choose(pool: &[u8], texts: &[u32], schemas: &[u32], links: &[u32], s: u32, text: u32) -> Choice
-    ensures { result ≡ chosen_in pool.now texts.now schemas.now links.now s text }
+fn choose(t: &Tables, s: u32, text: u32) -> Choice
+    ensures { let T = tables_of t.now in
+        result ≡ chosen_in T.pool T.texts T.schemas T.links s text }
 {
-    let first = fields::properties_first(schemas, s);
-    let count = fields::properties_count(schemas, s);
-    match lookup::property(pool, texts, links, first, count, text) {
-        Found::At(part) => Choice::Part(part),
-        Found::Nothing => {
-            if fields::object_closed(schemas, s) == 1 {
+    let first = t.properties_first(s);
+    let count = t.properties_count(s);
+    match lookup::property(t, first, count, text) {
+        Some(part) => Choice::Part(part),
+        None => {
+            if t.object_closed(s) == 1 {
                 return Choice::Closed;
             }
-            let more = fields::additional_properties(schemas, s);
+            let more = t.additional_properties(s);
             if more == NONE {
                 return Choice::Skip;
             }
@@ -67,588 +65,385 @@ fn choose(pool: &[u8], texts: &[u32], schemas: &[u32], links: &[u32], s: u32, te
 }
 
 // The alternatives after the first error, which is `best`: nothing is written any more.
-#[cycle(any_later_inner_reference_validate_all_of_validate_any_of_validate_array_validate_entry_validate_object_visit_visit_part)]
+#[cycle(visits)]
 fn any_later(
     mode: Mode,
-    pool: &[u8],
-    texts: &[u32],
-    nodes: &[u32],
-    notes: &[u32],
-    schemas: &[u32],
-    registry: &[u32],
-    patterns: &[u32],
-    links: &[u32],
-    numbers: &[u64],
-    ipath: &mut [u32],
-    spath: &mut [u32],
-    best: Visited,
+    t: &Tables,
+    paths: &mut Paths,
+    trail: Trail,
+    best: Refusal,
     below: u32,
     node: u32,
     first: u32,
     from: u32,
     count: u32,
-    steps: u32,
-    kinds: u32,
-) -> Visited
-    requires { Late steps kinds below from count ipath.old spath.old pool.now }
-    ensures { Later (lastly (visit_of (tables pool.now texts.now nodes.now notes.now schemas.now registry.now patterns.now links.now numbers.now) mode below node) best (slice links.now (first + from) (count - from))) ipath.old ipath.new spath.old spath.new result }
+) -> Result<(), Stop>
+    requires { let T = tables_of t.now in Late trail below from count paths.old T.pool }
+    ensures later { let T = tables_of t.now in
+        Later (lastly (visit_of T mode below node) (Err (Refused best))
+        (slice T.links (first + from) (count - from))) paths.old.instance.now paths.new.instance.now
+        paths.old.schema.now paths.new.schema.now result }
+    ensures same { Same paths.old paths.new }
 {
-    let mut i = from;
-    while i < count {
-        let part = link(links, first, i);
-        let a = visit(
-            mode, pool, texts, nodes, notes, schemas, registry, patterns, links, numbers, ipath,
-            spath, false, below, node, part, steps, kinds,
-        );
-        match a {
-            Visited::Accepted => {
-                return a;
-            }
-            Visited::Ended(_) => {
-                return a;
-            }
-            Visited::Refused(_) => {}
-            Visited::Invalid(_) => {}
+    for i in from..count {
+        let part = t.link(first, i);
+        let Err(stop) = visit(
+            mode,
+            t,
+            paths,
+            Trail {
+                log: false,
+                ..trail
+            },
+            below,
+            node,
+            part,
+        ) else {
+            return Ok(());
+        };
+        if let Stop::Ended(_) = stop {
+            return Err(stop);
         }
-        i += 1;
     }
-    best
+    Err(Stop::Refused(best))
 }
 
 // The first alternative that accepts, else the first error.
-#[cycle(any_later_inner_reference_validate_all_of_validate_any_of_validate_array_validate_entry_validate_object_visit_visit_part)]
+#[cycle(visits)]
 fn validate_any_of(
     mode: Mode,
-    pool: &[u8],
-    texts: &[u32],
-    nodes: &[u32],
-    notes: &[u32],
-    schemas: &[u32],
-    registry: &[u32],
-    patterns: &[u32],
-    links: &[u32],
-    numbers: &[u64],
-    ipath: &mut [u32],
-    spath: &mut [u32],
-    log: bool,
+    t: &Tables,
+    paths: &mut Paths,
+    trail: Trail,
     below: u32,
     node: u32,
     s: u32,
-    steps: u32,
-    kinds: u32,
-) -> Visited
-    requires { Deep steps kinds below ipath.old spath.old pool.now }
-    ensures { Met (any_in (tables pool.now texts.now nodes.now notes.now schemas.now registry.now patterns.now links.now numbers.now) mode below node s) log steps kinds ipath.old ipath.new spath.old spath.new result }
+) -> Result<(), Stop>
+    requires { let T = tables_of t.now in Deep trail below paths.old T.pool }
+    ensures met { Meets (any_in (tables_of t.now) mode below node s) trail paths.old paths.new
+        result }
+    ensures same { Same paths.old paths.new }
 {
-    let first = fields::list_first(schemas, s);
-    let count = fields::list_count(schemas, s);
-    let mut i: u32 = 0;
-    while i < count {
-        let part = link(links, first, i);
-        i += 1;
-        let a = visit(
-            mode, pool, texts, nodes, notes, schemas, registry, patterns, links, numbers, ipath,
-            spath, log, below, node, part, steps, kinds,
-        );
-        match a {
-            Visited::Accepted => {
-                return a;
-            }
-            Visited::Ended(_) => {
-                return a;
-            }
-            Visited::Refused(_) => {
+    let first = t.list_first(s);
+    let count = t.list_count(s);
+    for i in 0..count {
+        let part = t.link(first, i);
+        match visit(mode, t, paths, trail, below, node, part) {
+            Ok(()) => return Ok(()),
+            Err(Stop::Refused(best)) => {
                 return any_later(
-                    mode, pool, texts, nodes, notes, schemas, registry, patterns, links, numbers,
-                    ipath, spath, a, below, node, first, i, count, steps, kinds,
+                    mode,
+                    t,
+                    paths,
+                    trail,
+                    best,
+                    below,
+                    node,
+                    first,
+                    i + 1,
+                    count,
                 );
             }
-            Visited::Invalid(_) => {}
+            Err(Stop::Invalid(_)) => {}
+            Err(Stop::Ended(number)) => return Err(Stop::Ended(number)),
         }
     }
-    Visited::Ended(25)
+    Err(Stop::from(Failure::NoAlternative))
 }
 
 // The first part that does not accept.
-#[cycle(any_later_inner_reference_validate_all_of_validate_any_of_validate_array_validate_entry_validate_object_visit_visit_part)]
+#[cycle(visits)]
 fn validate_all_of(
     mode: Mode,
-    pool: &[u8],
-    texts: &[u32],
-    nodes: &[u32],
-    notes: &[u32],
-    schemas: &[u32],
-    registry: &[u32],
-    patterns: &[u32],
-    links: &[u32],
-    numbers: &[u64],
-    ipath: &mut [u32],
-    spath: &mut [u32],
-    log: bool,
+    t: &Tables,
+    paths: &mut Paths,
+    trail: Trail,
     below: u32,
     node: u32,
     s: u32,
-    steps: u32,
-    kinds: u32,
-) -> Visited
-    requires { Deep steps kinds below ipath.old spath.old pool.now }
-    ensures { Met (all_in (tables pool.now texts.now nodes.now notes.now schemas.now registry.now patterns.now links.now numbers.now) mode below node s) log steps kinds ipath.old ipath.new spath.old spath.new result }
+) -> Result<(), Stop>
+    requires { let T = tables_of t.now in Deep trail below paths.old T.pool }
+    ensures met { Meets (all_in (tables_of t.now) mode below node s) trail paths.old paths.new
+        result }
+    ensures same { Same paths.old paths.new }
 {
-    let first = fields::list_first(schemas, s);
-    let count = fields::list_count(schemas, s);
-    let mut i: u32 = 0;
-    while i < count {
-        let part = link(links, first, i);
-        let a = visit(
-            mode, pool, texts, nodes, notes, schemas, registry, patterns, links, numbers, ipath,
-            spath, log, below, node, part, steps, kinds,
-        );
-        let Visited::Accepted = a else {
-            return a;
-        };
-        i += 1;
+    let first = t.list_first(s);
+    let count = t.list_count(s);
+    for i in 0..count {
+        let part = t.link(first, i);
+        visit(mode, t, paths, trail, below, node, part)?;
     }
-    Visited::Accepted
+    Ok(())
 }
 
 // A part of the value one step down: a key's text (tag 0) or an index (tag 1).
-#[cycle(any_later_inner_reference_validate_all_of_validate_any_of_validate_array_validate_entry_validate_object_visit_visit_part)]
+#[cycle(visits)]
 fn visit_part(
     mode: Mode,
-    pool: &[u8],
-    texts: &[u32],
-    nodes: &[u32],
-    notes: &[u32],
-    schemas: &[u32],
-    registry: &[u32],
-    patterns: &[u32],
-    links: &[u32],
-    numbers: &[u64],
-    ipath: &mut [u32],
-    spath: &mut [u32],
-    log: bool,
+    t: &Tables,
+    paths: &mut Paths,
+    trail: Trail,
     below: u32,
     tag: u32,
     word: u32,
     node: u32,
     s: u32,
-    steps: u32,
-    kinds: u32,
-) -> Visited
-    requires { Stepping steps kinds below tag ipath.old spath.old pool.now }
-    ensures { Met (part_in (tables pool.now texts.now nodes.now notes.now schemas.now registry.now patterns.now links.now numbers.now) mode below node s tag word) log steps kinds ipath.old ipath.new spath.old spath.new result }
+) -> Result<(), Stop>
+    requires { let T = tables_of t.now in Stepping trail below tag paths.old T.pool }
+    ensures met { Meets (part_in (tables_of t.now) mode below node s tag word) trail paths.old
+        paths.new result }
+    ensures same { Same paths.old paths.new }
 {
-    let a = visit(
+    let Err(stop) = visit(
         mode,
-        pool,
-        texts,
-        nodes,
-        notes,
-        schemas,
-        registry,
-        patterns,
-        links,
-        numbers,
-        ipath,
-        spath,
-        log,
+        t,
+        paths,
+        Trail {
+            steps: trail.steps + 1,
+            ..trail
+        },
         below,
         node,
         s,
-        steps + 1,
-        kinds,
-    );
-    let Visited::Accepted = a else {
-        paths::mark_pair(ipath, steps, tag, word, paths::leaves_step(log, a));
-        return a;
+    ) else {
+        return Ok(());
     };
-    a
+    paths.push_step(trail.steps, tag, word, stop.leaves_step(trail.log));
+    Err(stop)
 }
 
 // An array's own words, then its items in order.
-#[cycle(any_later_inner_reference_validate_all_of_validate_any_of_validate_array_validate_entry_validate_object_visit_visit_part)]
+#[cycle(visits)]
 fn validate_array(
     mode: Mode,
-    pool: &[u8],
-    texts: &[u32],
-    nodes: &[u32],
-    notes: &[u32],
-    schemas: &[u32],
-    registry: &[u32],
-    patterns: &[u32],
-    links: &[u32],
-    numbers: &[u64],
-    ipath: &mut [u32],
-    spath: &mut [u32],
-    log: bool,
+    t: &Tables,
+    paths: &mut Paths,
+    trail: Trail,
     below: u32,
     node: u32,
     s: u32,
-    steps: u32,
-    kinds: u32,
-) -> Visited
-    requires { Deep steps kinds below ipath.old spath.old pool.now }
-    ensures { Met (array_in (tables pool.now texts.now nodes.now notes.now schemas.now registry.now patterns.now links.now numbers.now) mode below node s) log steps kinds ipath.old ipath.new spath.old spath.new result }
+) -> Result<(), Stop>
+    requires { let T = tables_of t.now in Deep trail below paths.old T.pool }
+    ensures met { Meets (array_in (tables_of t.now) mode below node s) trail paths.old paths.new
+        result }
+    ensures same { Same paths.old paths.new }
 {
-    let v = listed::check_array(mode, pool, texts, nodes, schemas, links, numbers, node, s);
-    let Verdict::Fine = v else {
-        return paths::judged(notes, schemas, v, s, steps, kinds);
-    };
-    let items = fields::array_items(schemas, s);
+    let v = listed::check_array(mode, t, node, s);
+    judged(t, v, s, trail)?;
+    let items = t.array_items(s);
     if items == NONE {
-        return Visited::Accepted;
+        return Ok(());
     }
-    let first = words::node_a(nodes, node);
-    let count = words::node_b(nodes, node);
-    let mut i: u32 = 0;
-    while i < count {
-        let part = link(links, first, i);
-        if quick::accepts(
-            mode, pool, texts, nodes, notes, schemas, registry, patterns, links, numbers, below,
-            part, items,
-        ) {
-            i += 1;
-        } else {
-            let a = visit_part(
-                mode, pool, texts, nodes, notes, schemas, registry, patterns, links, numbers,
-                ipath, spath, log, below, 1, i, part, items, steps, kinds,
-            );
-            let Visited::Accepted = a else {
-                return a;
-            };
-            i += 1;
+    let first = t.node_a(node);
+    let count = t.node_b(node);
+    for i in 0..count {
+        let part = t.link(first, i);
+        if quick::accepts(mode, t, below, part, items) {
+            continue;
         }
+        visit_part(mode, t, paths, trail, below, 1, i, part, items)?;
     }
-    Visited::Accepted
+    Ok(())
 }
 
 // Entry k of an object; a key that is no string is skipped even where the object is closed.
-#[cycle(any_later_inner_reference_validate_all_of_validate_any_of_validate_array_validate_entry_validate_object_visit_visit_part)]
+#[cycle(visits)]
 fn validate_entry(
     mode: Mode,
-    pool: &[u8],
-    texts: &[u32],
-    nodes: &[u32],
-    notes: &[u32],
-    schemas: &[u32],
-    registry: &[u32],
-    patterns: &[u32],
-    links: &[u32],
-    numbers: &[u64],
-    ipath: &mut [u32],
-    spath: &mut [u32],
-    log: bool,
+    t: &Tables,
+    paths: &mut Paths,
+    trail: Trail,
     below: u32,
     node: u32,
     s: u32,
     k: u32,
-    steps: u32,
-    kinds: u32,
-) -> Visited
-    requires { Deep steps kinds below ipath.old spath.old pool.now }
-    ensures { Met (entry_in (tables pool.now texts.now nodes.now notes.now schemas.now registry.now patterns.now links.now numbers.now) mode below node s k) log steps kinds ipath.old ipath.new spath.old spath.new result }
+) -> Result<(), Stop>
+    requires { let T = tables_of t.now in Deep trail below paths.old T.pool }
+    ensures met { Meets (entry_in (tables_of t.now) mode below node s k) trail paths.old paths.new
+        result }
+    ensures same { Same paths.old paths.new }
 {
-    let key = lookup::entry_key(nodes, links, node, k);
-    if words::node_kind(nodes, key) != 4 {
-        return Visited::Accepted;
+    let key = lookup::entry_key(t, node, k);
+    if t.node_kind(key) != node::STRING {
+        return Ok(());
     }
-    let text = words::node_a(nodes, key);
-    match choose(pool, texts, schemas, links, s, text) {
-        Choice::Skip => Visited::Accepted,
-        Choice::Closed => paths::refuse(
-            notes,
-            schemas,
-            3,
+    let text = t.node_a(key);
+    match choose(t, s, text) {
+        Choice::Skip => Ok(()),
+        Choice::Closed => Err(refuse(
+            t,
+            Reason::UnknownProperty,
             node,
             s,
             Detail::Key(text),
-            steps,
-            kinds,
-        ),
+            trail,
+        )),
         Choice::Part(part) => {
-            let value = lookup::entry_value(nodes, links, node, k);
-            if quick::accepts(
-                mode, pool, texts, nodes, notes, schemas, registry, patterns, links, numbers,
-                below, value, part,
-            ) {
-                return Visited::Accepted;
+            let value = lookup::entry_value(t, node, k);
+            if quick::accepts(mode, t, below, value, part) {
+                return Ok(());
             }
-            visit_part(
-                mode, pool, texts, nodes, notes, schemas, registry, patterns, links, numbers,
-                ipath, spath, log, below, 0, text, value, part, steps, kinds,
-            )
+            visit_part(mode, t, paths, trail, below, 0, text, value, part)
         }
     }
 }
 
 // What an object is asked before its entries, then these in order.
-#[cycle(any_later_inner_reference_validate_all_of_validate_any_of_validate_array_validate_entry_validate_object_visit_visit_part)]
+#[cycle(visits)]
 fn validate_object(
     mode: Mode,
-    pool: &[u8],
-    texts: &[u32],
-    nodes: &[u32],
-    notes: &[u32],
-    schemas: &[u32],
-    registry: &[u32],
-    patterns: &[u32],
-    links: &[u32],
-    numbers: &[u64],
-    ipath: &mut [u32],
-    spath: &mut [u32],
-    log: bool,
+    t: &Tables,
+    paths: &mut Paths,
+    trail: Trail,
     below: u32,
     node: u32,
     s: u32,
-    steps: u32,
-    kinds: u32,
-) -> Visited
-    requires { Deep steps kinds below ipath.old spath.old pool.now }
-    ensures { Met (object_whole (tables pool.now texts.now nodes.now notes.now schemas.now registry.now patterns.now links.now numbers.now) mode below node s) log steps kinds ipath.old ipath.new spath.old spath.new result }
+) -> Result<(), Stop>
+    requires { let T = tables_of t.now in Deep trail below paths.old T.pool }
+    ensures met { Meets (object_whole (tables_of t.now) mode below node s) trail paths.old paths.new
+        result }
+    ensures same { Same paths.old paths.new }
 {
-    let v = objects::check_object(pool, texts, nodes, schemas, links, node, s);
-    let Verdict::Fine = v else {
-        return paths::judged(notes, schemas, v, s, steps, kinds);
-    };
-    let count = words::node_b(nodes, node);
-    let mut k: u32 = 0;
-    while k < count {
-        let a = validate_entry(
-            mode, pool, texts, nodes, notes, schemas, registry, patterns, links, numbers, ipath,
-            spath, log, below, node, s, k, steps, kinds,
-        );
-        let Visited::Accepted = a else {
-            return a;
-        };
-        k += 1;
+    let v = objects::check_object(t, node, s);
+    judged(t, v, s, trail)?;
+    let count = t.node_b(node);
+    for k in 0..count {
+        validate_entry(mode, t, paths, trail, below, node, s, k)?;
     }
-    Visited::Accepted
+    Ok(())
 }
 
 // The schema that the registry has under a ref's name.
-#[cycle(any_later_inner_reference_validate_all_of_validate_any_of_validate_array_validate_entry_validate_object_visit_visit_part)]
+#[cycle(visits)]
 fn reference(
     mode: Mode,
-    pool: &[u8],
-    texts: &[u32],
-    nodes: &[u32],
-    notes: &[u32],
-    schemas: &[u32],
-    registry: &[u32],
-    patterns: &[u32],
-    links: &[u32],
-    numbers: &[u64],
-    ipath: &mut [u32],
-    spath: &mut [u32],
-    log: bool,
+    t: &Tables,
+    paths: &mut Paths,
+    trail: Trail,
     below: u32,
     node: u32,
     s: u32,
-    steps: u32,
-    kinds: u32,
-) -> Visited
-    requires { Deep steps kinds below ipath.old spath.old pool.now }
-    ensures { Met (ref_in (tables pool.now texts.now nodes.now notes.now schemas.now registry.now patterns.now links.now numbers.now) mode below node s) log steps kinds ipath.old ipath.new spath.old spath.new result }
+) -> Result<(), Stop>
+    requires { let T = tables_of t.now in Deep trail below paths.old T.pool }
+    ensures met { Meets (ref_in (tables_of t.now) mode below node s) trail paths.old paths.new
+        result }
+    ensures same { Same paths.old paths.new }
 {
-    let name = fields::ref_text(schemas, s);
-    match lookup::resolve(pool, texts, registry, name) {
-        Found::At(target) => visit(
-            mode, pool, texts, nodes, notes, schemas, registry, patterns, links, numbers, ipath,
-            spath, log, below, node, target, steps, kinds,
-        ),
-        Found::Nothing => paths::refuse(
-            notes,
-            schemas,
-            12,
+    let name = t.ref_text(s);
+    match lookup::resolve(&t.texts, t.registry, name) {
+        Some(target) => visit(mode, t, paths, trail, below, node, target),
+        None => Err(refuse(
+            t,
+            Reason::UnresolvedReference,
             node,
             s,
             Detail::Reference(name),
-            steps,
-            kinds,
-        ),
+            trail,
+        )),
     }
 }
 
 // A visit by the schema's kind, without its own step.
-#[cycle(any_later_inner_reference_validate_all_of_validate_any_of_validate_array_validate_entry_validate_object_visit_visit_part)]
+#[cycle(visits)]
 fn inner(
     mode: Mode,
-    pool: &[u8],
-    texts: &[u32],
-    nodes: &[u32],
-    notes: &[u32],
-    schemas: &[u32],
-    registry: &[u32],
-    patterns: &[u32],
-    links: &[u32],
-    numbers: &[u64],
-    ipath: &mut [u32],
-    spath: &mut [u32],
-    log: bool,
+    t: &Tables,
+    paths: &mut Paths,
+    trail: Trail,
     below: u32,
     node: u32,
     s: u32,
     kind: u32,
-    steps: u32,
-    kinds: u32,
-) -> Visited
-    requires { Inside steps kinds below ipath.old spath.old pool.now kind (schema_kind schemas.now s) }
-    ensures { Met (inner_in (tables pool.now texts.now nodes.now notes.now schemas.now registry.now patterns.now links.now numbers.now) mode below node s) log steps kinds ipath.old ipath.new spath.old spath.new result }
+) -> Result<(), Stop>
+    requires { let T = tables_of t.now in
+        Inside trail below paths.old T.pool kind (schema_kind T.schemas s) }
+    ensures met { Meets (inner_in (tables_of t.now) mode below node s) trail paths.old paths.new
+        result }
+    ensures same { Same paths.old paths.new }
 {
     match kind {
-        1 => paths::judged(
-            notes,
-            schemas,
-            judge::validate_boolean(nodes, node),
+        kind::BOOLEAN => judged(t, judge::validate_boolean(t, node), s, trail),
+        kind::NUMBER => judged(t, judge::numeric::validate_number(t, node, s), s, trail),
+        kind::STRING => judged(
+            t,
+            judge::string::validate_string(mode, t, node, s),
             s,
-            steps,
-            kinds,
+            trail,
         ),
-        2 => paths::judged(
-            notes,
-            schemas,
-            judge::numeric::validate_number(nodes, schemas, numbers, node, s),
-            s,
-            steps,
-            kinds,
-        ),
-        3 => paths::judged(
-            notes,
-            schemas,
-            judge::string::validate_string(mode, pool, texts, nodes, schemas, patterns, node, s),
-            s,
-            steps,
-            kinds,
-        ),
-        4 => paths::judged(
-            notes,
-            schemas,
-            judge::validate_null(nodes, node),
-            s,
-            steps,
-            kinds,
-        ),
-        5 => paths::judged(
-            notes,
-            schemas,
-            listed::validate_enum(mode, pool, texts, nodes, schemas, links, numbers, node, s),
-            s,
-            steps,
-            kinds,
-        ),
-        7 => validate_any_of(
-            mode, pool, texts, nodes, notes, schemas, registry, patterns, links, numbers, ipath,
-            spath, log, below, node, s, steps, kinds,
-        ),
-        8 => validate_all_of(
-            mode, pool, texts, nodes, notes, schemas, registry, patterns, links, numbers, ipath,
-            spath, log, below, node, s, steps, kinds,
-        ),
-        9 => validate_array(
-            mode, pool, texts, nodes, notes, schemas, registry, patterns, links, numbers, ipath,
-            spath, log, below, node, s, steps, kinds,
-        ),
-        10 => validate_object(
-            mode, pool, texts, nodes, notes, schemas, registry, patterns, links, numbers, ipath,
-            spath, log, below, node, s, steps, kinds,
-        ),
-        _ => Visited::Accepted,
+        kind::NULL => judged(t, judge::validate_null(t, node), s, trail),
+        kind::ENUM => judged(t, listed::validate_enum(mode, t, node, s), s, trail),
+        kind::ANY_OF => validate_any_of(mode, t, paths, trail, below, node, s),
+        kind::ALL_OF => validate_all_of(mode, t, paths, trail, below, node, s),
+        kind::ARRAY => validate_array(mode, t, paths, trail, below, node, s),
+        kind::OBJECT => validate_object(mode, t, paths, trail, below, node, s),
+        _ => Ok(()),
     }
 }
 
 // A visit of a value by a schema: one level. A ref has no step of its own.
-#[cycle(any_later_inner_reference_validate_all_of_validate_any_of_validate_array_validate_entry_validate_object_visit_visit_part)]
+#[cycle(visits)]
 pub fn visit(
     mode: Mode,
-    pool: &[u8],
-    texts: &[u32],
-    nodes: &[u32],
-    notes: &[u32],
-    schemas: &[u32],
-    registry: &[u32],
-    patterns: &[u32],
-    links: &[u32],
-    numbers: &[u64],
-    ipath: &mut [u32],
-    spath: &mut [u32],
-    log: bool,
+    t: &Tables,
+    paths: &mut Paths,
+    trail: Trail,
     level: u32,
     node: u32,
     s: u32,
-    steps: u32,
-    kinds: u32,
-) -> Visited
-    requires { Room steps kinds level ipath.old spath.old pool.now }
-    ensures { Met (visit_of (tables pool.now texts.now nodes.now notes.now schemas.now registry.now patterns.now links.now numbers.now) mode level node s) log steps kinds ipath.old ipath.new spath.old spath.new result }
+) -> Result<(), Stop>
+    requires { let T = tables_of t.now in Room trail level paths.old T.pool }
+    ensures met { Meets (visit_of (tables_of t.now) mode level node s) trail paths.old paths.new
+        result }
+    ensures same { Same paths.old paths.new }
 {
     if level == 0 {
-        return Visited::Ended(23);
+        return Err(Stop::from(Failure::TooDeep));
     }
     let below = level - 1;
-    let kind = fields::schema_kind(schemas, s);
-    if 10 < kind {
-        return reference(
-            mode, pool, texts, nodes, notes, schemas, registry, patterns, links, numbers, ipath,
-            spath, log, below, node, s, steps, kinds,
-        );
+    let kind = t.schema_kind(s);
+    if kind > kind::OBJECT {
+        return reference(mode, t, paths, trail, below, node, s);
     }
-    let a = inner(
+    let Err(stop) = inner(
         mode,
-        pool,
-        texts,
-        nodes,
-        notes,
-        schemas,
-        registry,
-        patterns,
-        links,
-        numbers,
-        ipath,
-        spath,
-        log,
+        t,
+        paths,
+        Trail {
+            kinds: trail.kinds + 1,
+            ..trail
+        },
         below,
         node,
         s,
         kind,
-        steps,
-        kinds + 1,
-    );
-    let Visited::Accepted = a else {
-        paths::mark(spath, kinds, kind, paths::leaves_kind(log, a));
-        return a;
+    ) else {
+        return Ok(());
     };
-    a
+    paths.push_kind(trail.kinds, kind, stop.leaves_kind(trail.log));
+    Err(stop)
 }
 
 // The visit that a call begins with; most are accepted at once.
 pub fn first_visit(
     mode: Mode,
-    pool: &[u8],
-    texts: &[u32],
-    nodes: &[u32],
-    notes: &[u32],
-    schemas: &[u32],
-    registry: &[u32],
-    patterns: &[u32],
-    links: &[u32],
-    numbers: &[u64],
-    ipath: &mut [u32],
-    spath: &mut [u32],
+    t: &Tables,
+    paths: &mut Paths,
     level: u32,
     node: u32,
     s: u32,
-) -> Visited
-    requires { Room 0 0 level ipath.old spath.old pool.now }
-    ensures { Met (visit_of (tables pool.now texts.now nodes.now notes.now schemas.now registry.now patterns.now links.now numbers.now) mode level node s) true 0 0 ipath.old ipath.new spath.old spath.new result }
+) -> Result<(), Stop>
+    requires { let T = tables_of t.now in Room start level paths.old T.pool }
+    ensures met { Meets (visit_of (tables_of t.now) mode level node s) start paths.old paths.new
+        result }
+    ensures same { Same paths.old paths.new }
 {
-    if quick::accepts(
-        mode, pool, texts, nodes, notes, schemas, registry, patterns, links, numbers, level, node,
-        s,
-    ) {
-        return Visited::Accepted;
+    if quick::accepts(mode, t, level, node, s) {
+        return Ok(());
     }
-    visit(
-        mode, pool, texts, nodes, notes, schemas, registry, patterns, links, numbers, ipath, spath,
-        true, level, node, s, 0, 0,
-    )
+    let trail = Trail {
+        log: true,
+        steps: 0,
+        kinds: 0,
+    };
+    visit(mode, t, paths, trail, level, node, s)
 }

@@ -1,16 +1,15 @@
-use Prim.Native.Nat.{◌-◌}
-use Rattle.build.proofs.Build as build
-use mathlib.Core.Path.{◌≡◌}
-use Rattle.compilation.specs.State.{source_of, state_of}
 use Prim.Native.Nat.{◌+◌, ◌*◌}
+use Rattle.derive.specs.Meets.{source_in, state_in, SameLent}
+use Rattle.build.proofs.Build as build
 use Rattle.build.proofs.+array_derived_each_group_node_one_perhaps_plain.Given as goal
 
 -- What the borrow checker leaves of each. Assumes nothing.
 abbrev pub invariant-each-loop-i : goal.invariant-each-loop-i
-invariant-each-loop-i l = build.Going (source_of l.pool l.texts l.registry l.base l.initial.notes l.initial.schemas l.initial.links) (source_of l.pool l.texts l.registry l.base l.notes l.schemas l.links) l.below l.base l.initial.u l.u (state_of l.initial.u l.initial.notes l.initial.schemas l.initial.links) (state_of l.u l.notes l.schemas l.links) l.initial.stack l.stack l.at l.step l.count l.sp l.i l.q l.top × (l.lb ≡ l.base.links)
-
-abbrev pub decreases-each-loop-i : goal.decreases-each-loop-i
-decreases-each-loop-i l = l.count - l.i
+invariant-each-loop-i l =
+    record {
+      going : build.Going (source_in l.origin l.initial.work l.initial.links) (source_in l.origin l.work l.links) l.below l.origin.base l.initial.u l.u (state_in l.initial.u l.initial.work l.initial.links) (state_in l.u l.work l.links) l.initial.work.stack.now l.work.stack.now l.at l.step l.count l.sp l.i l.q l.top;
+      lent : SameLent l.initial.work l.work;
+    }
 
 -- The measures of the cycle, and what each member is given and asks. Assumes nothing.
 abbrev pub decreases-array : goal.decreases-array

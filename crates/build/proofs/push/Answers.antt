@@ -1,8 +1,8 @@
 use Rattle.put.specs.Chase.{next}
 use Rattle.build.proofs.push.Goals as goal
 
-pub bounds-stack-i : goal.bounds-stack-i
-bounds-stack-i c = c.requires.free c.if-fresh.true
+pub bounds-stack-top : goal.bounds-stack-top
+bounds-stack-top c = c.requires.free c.if-fresh.true
 
 pub returns-then-fresh : goal.returns-then-fresh
 unfolding next

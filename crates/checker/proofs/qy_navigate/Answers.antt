@@ -3,4 +3,4 @@ use Rattle.checker.specs.Flat.{flat_of}
 use Rattle.checker.proofs.qy_navigate.Goals as goal
 
 pub returns : goal.returns
-returns c = c.flatten.ensures ∙ ap flat_of c.navigate.ensures
+returns c = c.from.ensures ∙ ap flat_of c.navigate.ensures

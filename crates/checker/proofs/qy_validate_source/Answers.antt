@@ -2,4 +2,4 @@ use Rattle.checker.proofs.Left.{left_made}
 use Rattle.checker.proofs.qy_validate_source.Goals as goal
 
 pub returns : goal.returns
-returns c = left_made _ _ _ _ _ c.flatten.ensures c.validate_mode.ensures
+returns c = left_made _ _ _ _ _ c.from.ensures c.validate_mode.ensures

@@ -1,8 +1,13 @@
-use Rattle.compile.proofs.Ended.{answered-done, answered-refused}
+use mathlib.Core.Path.{ap, ◌∙◌}
+use Rattle.error.specs.declared.Answer.{Answer}
+use Rattle.error.specs.Answers.{plain_answer, with_used}
+use Rattle.compile.specs.Ended.{answered_of}
 use Rattle.compile.proofs.answered.Goals as goal
 
-pub returns-then-made-eq0 : goal.returns-then-made-eq0
-returns-then-made-eq0 c = answered-done _ _ c.if-made-eq0.true c.found.ensures c.with_used.ensures
+pub returns-in-Ok : goal.returns-in-Ok
+unfolding answered_of
+returns-in-Ok c = rw c.in-Ok.is (c.with_used.ensures ∙ ap (λ (y : Answer). with_used y c.args.used) c.found.ensures)
 
-pub returns-else-made-eq0 : goal.returns-else-made-eq0
-returns-else-made-eq0 c = answered-refused _ _ c.if-made-eq0.false c.plain.ensures c.with_used-else-made-eq0.ensures
+pub returns-in-Err : goal.returns-in-Err
+unfolding answered_of
+returns-in-Err c = rw c.in-Err.is (c.with_used-in-Err.ensures ∙ ap (λ (y : Answer). with_used y c.args.used) (c.plain.ensures ∙ ap plain_answer c.number.ensures))

@@ -1,21 +1,28 @@
-use Rattle.derive.proofs.Derive as derive
+use mathlib.Core.Path.{◌≡◌}
+use borrow.Author.Rules.{rules}
+use Rattle.std.specs.Prelude.{None}
 use native.Mathlib.Omega.{arith}
+use Rattle.derive.proofs.Derive as derive
+use Rattle.std.proofs.lemmas.Result.{err_from_is_err_and}
+use Rattle.derive.proofs.Build.{built_told}
+use Rattle.merge.proofs.Lists.{span_part}
 use Rattle.derive.proofs.merge_object_schemas.Goals as goal
 
-pub returns-then-not-add_words : goal.returns-then-not-add_words
-returns-then-not-add_words c = derive.merge_no_note _ _ c.args.registry.now _ _ _ _ _ _ _ _ _ c.requires _ c.merged_note-note.ensures _ (derive.grown_is _ _ _ _ _ _ _ (c.if-not-add_words.true) c.add_words.ensures)
+pub returns-in_err-add_words-clause-made : goal.returns-in_err-add_words-clause-made
+returns-in_err-add_words-clause-made c =
+    let p = err_from_is_err_and c.from_residual.result c.from_residual.ensures.1 in
+    rw (p.1, p.2, c.in_err-add_words.ensures.full, span_part c.args.work.now.stack.now c.args.run.from c.args.run.count (omega (arith, c.args.run.ends, c.requires.long))) (derive.merge_no_note _ _ c.args.origin.now.registry.now _ _ _ _ _ _ _ _ _ c.requires _ c.take_bases-taken.ensures.note _ c.in_err-add_words.ensures.grown)
 
-pub lay_all-lists-requires : goal.lay_all-lists-requires
-lay_all-lists-requires c = record { bases = omega arith; derived = c.requires.links; small = omega arith }
-
-pub returns-then-lists : goal.returns-then-lists
-returns-then-lists c = derive.merge_no_links _ _ c.args.registry.now _ _ _ _ _ _ _ _ _ c.requires _ c.merged_note-note.ensures _ (derive.grown_is _ _ _ _ _ _ _ (c.if-not-add_words.false) c.add_words.ensures) _ c.own_offer-additional.ensures _ c.own_offer-names.ensures _ _ c.count_offers-offers.ensures c.count_offers-named.ensures _ _ c.lay_all-lists.ensures c.if-lists.true
+pub returns-in_default-clause-made : goal.returns-in_default-clause-made
+returns-in_default-clause-made c =
+    let none : c.lay.result ≡ None = search rules in
+    rw (span_part c.args.work.now.stack.now c.args.run.from c.args.run.count (omega (arith, c.args.run.ends, c.requires.long))) (derive.merge_no_links _ _ c.args.origin.now.registry.now _ _ _ _ _ _ _ _ _ c.requires _ c.take_bases-taken.ensures.note _ c.in_ok-add_words.ensures.grown _ c.take_bases-taken.ensures.additional _ c.take_bases-taken.ensures.names _ _ c.take_bases-taken.ensures.offers c.take_bases-taken.ensures.named _ _ c.lay.ensures none)
 
 pub after-v-requires : goal.after-v-requires
-after-v-requires c = derive.merge-fits _ _ c.args.registry.now _ _ _ _ _ _ _ _ _ c.requires _ c.merged_note-note.ensures _ (derive.grown_is _ _ _ _ _ _ _ (c.if-not-add_words.false) c.add_words.ensures) _ c.own_offer-additional.ensures _ c.own_offer-names.ensures _ _ c.count_offers-offers.ensures c.count_offers-named.ensures _ _ c.lay_all-lists.ensures c.if-lists.false
+after-v-requires c = derive.merge-fits _ _ c.args.origin.now.registry.now _ _ _ _ _ _ _ _ _ c.requires _ c.take_bases-taken.ensures.note _ c.in_ok-add_words.ensures.grown _ c.take_bases-taken.ensures.additional _ c.take_bases-taken.ensures.names _ _ c.take_bases-taken.ensures.offers c.take_bases-taken.ensures.named _ _ c.lay.ensures _ c.in-Some.is
 
 pub merged_rows-requires : goal.merged_rows-requires
-merged_rows-requires c = derive.merge-rows-ready _ _ c.args.registry.now _ _ _ _ _ _ _ _ _ c.requires _ c.merged_note-note.ensures _ (derive.grown_is _ _ _ _ _ _ _ (c.if-not-add_words.false) c.add_words.ensures) _ c.own_offer-additional.ensures _ c.own_offer-names.ensures _ _ c.count_offers-offers.ensures c.count_offers-named.ensures _ _ c.lay_all-lists.ensures c.if-lists.false _ c.after-v.ensures
+merged_rows-requires c = derive.merge-rows-ready _ _ c.args.origin.now.registry.now _ _ _ _ _ _ _ _ _ c.requires _ c.take_bases-taken.ensures.note _ c.in_ok-add_words.ensures.grown _ c.take_bases-taken.ensures.additional _ c.take_bases-taken.ensures.names _ _ c.take_bases-taken.ensures.offers c.take_bases-taken.ensures.named _ _ c.lay.ensures _ c.in-Some.is _ c.after-v.ensures
 
-pub returns : goal.returns
-returns c = derive.merge-done _ _ c.args.registry.now _ _ _ _ _ _ _ _ _ c.requires _ c.merged_note-note.ensures _ (derive.grown_is _ _ _ _ _ _ _ (c.if-not-add_words.false) c.add_words.ensures) _ c.own_offer-additional.ensures _ c.own_offer-names.ensures _ _ c.count_offers-offers.ensures c.count_offers-named.ensures _ _ c.lay_all-lists.ensures c.if-lists.false _ c.after-v.ensures _ c.merged_scalars-scalars.ensures _ _ c.merged_rows.ensures
+pub returns-clause-made : goal.returns-clause-made
+returns-clause-made c = rw (span_part c.args.work.now.stack.now c.args.run.from c.args.run.count (omega (arith, c.args.run.ends, c.requires.long))) (built_told _ _ _ _ _ _ _ _ _ _ _ _ c.requires.most (derive.merge-done _ _ c.args.origin.now.registry.now _ _ _ _ _ _ _ _ _ c.requires _ c.take_bases-taken.ensures.note _ c.in_ok-add_words.ensures.grown _ c.take_bases-taken.ensures.additional _ c.take_bases-taken.ensures.names _ _ c.take_bases-taken.ensures.offers c.take_bases-taken.ensures.named _ _ c.lay.ensures _ c.in-Some.is _ c.after-v.ensures _ c.take_bases-taken.ensures.scalars _ _ c.merged_rows.ensures))

@@ -1,31 +1,18 @@
 use Rattle.derive.proofs.Rows as rows
-use native.Mathlib.Omega.{arith}
-use mathlib.Core.Path.{refl, ◌∙◌}
+use mathlib.Core.Path.{refl}
+use Rattle.std.proofs.lemmas.Result.{err_from_is_err_and}
+use Rattle.derive.proofs.Build.{number_some}
 use Rattle.derive.proofs.merged_rows.Goals as goal
 
-pub returns-then-a-ne0 : goal.returns-then-a-ne0
-returns-then-a-ne0 c = rows.merged_stop _ _ _ _ _ _ _ _ _ _ _ _ _ refl refl refl refl _ c.join_row-a.ensures c.if-a-ne0.true
+pub returns-in_err-a : goal.returns-in_err-a
+returns-in_err-a c =
+    let p = err_from_is_err_and c.from_residual.result c.from_residual.ensures.1 in
+    rw (p.1, p.2) (rows.merged_stop _ _ _ _ _ _ _ _ _ _ _ _ _ refl refl refl refl _ c.in_err-a.ensures (number_some _))
 
-pub join_row-n-requires : goal.join_row-n-requires
-join_row-n-requires c = record { most = c.join_row-a.ensures.most c.requires.most; few = c.requires.fewer }
-
-pub returns-then-n-ne0 : goal.returns-then-n-ne0
-returns-then-n-ne0 c = rows.merged_stop_2 _ _ _ _ _ _ _ _ _ _ _ _ _ refl refl refl refl _ c.join_row-a.ensures c.if-a-ne0.false _ _ c.join_row-n.ensures c.if-n-ne0.true
-
-pub overflow_add-at-3 : goal.overflow_add-at-3
-overflow_add-at-3 c = omega (arith, c.requires.short)
-
-pub overflow_add-pn-6 : goal.overflow_add-pn-6
-overflow_add-pn-6 c = omega (arith, c.requires.short)
-
-pub overflow_add-at-4 : goal.overflow_add-at-4
-overflow_add-at-4 c = omega (arith, c.requires.short)
-
-pub finish-requires : goal.finish-requires
-finish-requires c = c.join_row-n.ensures.most (c.join_row-a.ensures.most c.requires.most)
-
-pub shape_of-schemas : goal.shape_of-schemas
-shape_of-schemas c = c.finish.ensures.long ∙ c.join_row-n.ensures.long ∙ c.join_row-a.ensures.long
+pub returns-in_err-n : goal.returns-in_err-n
+returns-in_err-n c =
+    let p = err_from_is_err_and c.from_residual-in_err-n.result c.from_residual-in_err-n.ensures.1 in
+    rw (p.1, p.2) (rows.merged_stop_2 _ _ _ _ _ _ _ _ _ _ _ _ _ refl refl refl refl _ c.in_ok-a.ensures refl _ _ c.in_err-n.ensures (number_some _))
 
 pub returns : goal.returns
-returns c = rows.merged_done _ _ _ _ _ _ _ _ _ _ _ _ _ refl refl refl refl _ c.join_row-a.ensures c.if-a-ne0.false _ _ c.join_row-n.ensures c.if-n-ne0.false _ _ _ _ c.flag-shut.ensures c.object_row-rec.ensures c.finish.ensures
+returns c = rows.rowed_told _ _ _ _ _ _ (rows.merged_done _ _ _ _ _ _ _ _ _ _ _ _ _ refl refl refl refl _ c.in_ok-a.ensures refl _ _ c.in_ok-n.ensures refl _ _ _ _ (rows.shut_is _ c.from-shut.ensures) c.object_row-rec.ensures c.finish.ensures)

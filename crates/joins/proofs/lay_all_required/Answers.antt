@@ -1,23 +1,18 @@
-use native.Mathlib.Omega.{arith}
+use Rattle.joins.specs.Joins.{required_of}
 use Rattle.joins.proofs.Laws as laws
 use Rattle.joins.proofs.lay_all_required.Goals as goal
 
--- src/lib.rt:403:9
-pub returns-then-p : goal.returns-then-p
-returns-then-p c = laws.required_full _ _ _ _ _ _ _ _ _ _ c.lay_required-p.ensures c.if-p.true
+pub returns-in_err-end : goal.returns-in_err-end
+returns-in_err-end c = rw c.from_residual.ensures (laws.then_full _ _ _ c.in_err-end.ensures _)
 
--- src/lib.rt:405:44
-pub overflow_add-at : goal.overflow_add-at
-overflow_add-at c = omega (arith, laws.laid_small _ _ _ _ _ c.lay_required-p.ensures c.if-p.false)
+pub returns-in_err-last : goal.returns-in_err-last
+unfolding required_of
+returns-in_err-last c =
+    rw c.from_residual-in_err-last.ensures
+    (rw (c.required_first-first.ensures, c.required_count-count.ensures) at (laws.then_none _ _ _ _ c.in_ok-end.ensures _ _ c.in_err-last.ensures))
 
--- src/lib.rt:407:9
-pub returns-then-q : goal.returns-then-q
-returns-then-q c = laws.required_not _ _ _ _ _ _ _ _ _ _ c.lay_required-p.ensures c.if-p.false c.requires.derived _ _ _ _ c.field-first.ensures c.field-n.ensures c.lay_list-q.ensures c.if-q.true
-
--- src/lib.rt:411:12
-pub overflow_add-result : goal.overflow_add-result
-overflow_add-result c = omega (arith, laws.laid_small _ _ _ _ _ c.lay_required-p.ensures c.if-p.false, laws.laid_small _ _ _ _ _ c.lay_list-q.ensures c.if-q.false)
-
--- src/lib.rt:382:1
 pub returns : goal.returns
-returns c = laws.required_laid _ _ _ _ _ _ _ _ _ _ c.lay_required-p.ensures c.if-p.false c.requires.derived _ _ _ _ c.field-first.ensures c.field-n.ensures c.lay_list-q.ensures c.if-q.false
+unfolding required_of
+returns c =
+    rw (c.required_first-first.ensures, c.required_count-count.ensures) at
+    (laws.then_some _ _ _ _ c.in_ok-end.ensures _ _ _ c.in_ok-last.ensures)

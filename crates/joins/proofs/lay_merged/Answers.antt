@@ -1,6 +1,6 @@
-use Rattle.joins.proofs.Laws as laws
+use Rattle.merge.specs.Pairs.{record_pairs}
 use Rattle.joins.proofs.lay_merged.Goals as goal
 
--- src/lib.rt:342:1
 pub returns : goal.returns
-returns c = laws.merged_laid _ _ _ _ _ _ _ _ _ _ _ _ _ _ c.field-first.ensures c.field-n.ensures c.lay_pairs.ensures
+unfolding record_pairs
+returns c = rw (c.schema_word-first.ensures, c.schema_word-count.ensures) at c.lay_pairs.ensures

@@ -1,5 +1,5 @@
 use mathlib.Core.Path.{◌≡◌}
-use Prim.Native.Nat.{◌+◌, ◌*◌, ◌-◌, ◌≤◌}
+use Prim.Native.Nat.{◌+◌, ◌*◌, ◌≤◌}
 use Rattle.layout.specs.Walk.{every}
 use Rattle.json_equality.specs.Walk.{equal_at, equal_item_of, equal_arrays_of, equal_entry_of, equal_objects_of}
 use Rattle.json_equality.proofs.+equal_arrays_equal_at_equal_objects.Given as goal
@@ -16,14 +16,8 @@ decreases-equal_objects l = 2 * l.depth + 1
 
 abbrev pub invariant-equal_arrays-loop-i : goal.invariant-equal_arrays-loop-i
 invariant-equal_arrays-loop-i l =
-    (l.i ≤ l.count) × (every (equal_item_of (equal_at l.way l.pool l.texts l.nodes l.links l.numbers l.depth) l.nodes l.links l.a l.b) l.i l.count ≡ equal_arrays_of (equal_at l.way l.pool l.texts l.nodes l.links l.numbers l.depth) l.nodes l.links l.a l.b)
-
-abbrev pub decreases-equal_arrays-loop-i : goal.decreases-equal_arrays-loop-i
-decreases-equal_arrays-loop-i l = l.count - l.i
+    (l.i ≤ l.count) × (every (equal_item_of (equal_at l.way l.t.texts.pool.now l.t.texts.records.now l.t.nodes.now l.t.links.now l.t.numbers.now l.depth) l.t.nodes.now l.t.links.now l.a l.b) l.i l.count ≡ equal_arrays_of (equal_at l.way l.t.texts.pool.now l.t.texts.records.now l.t.nodes.now l.t.links.now l.t.numbers.now l.depth) l.t.nodes.now l.t.links.now l.a l.b)
 
 abbrev pub invariant-equal_objects-loop-k : goal.invariant-equal_objects-loop-k
 invariant-equal_objects-loop-k l =
-    (l.k ≤ l.count) × (every (equal_entry_of (equal_at l.way l.pool l.texts l.nodes l.links l.numbers l.depth) l.pool l.texts l.nodes l.links l.a l.b) l.k l.count ≡ equal_objects_of (equal_at l.way l.pool l.texts l.nodes l.links l.numbers l.depth) l.pool l.texts l.nodes l.links l.a l.b)
-
-abbrev pub decreases-equal_objects-loop-k : goal.decreases-equal_objects-loop-k
-decreases-equal_objects-loop-k l = l.count - l.k
+    (l.k ≤ l.k-end) × (every (equal_entry_of (equal_at l.way l.t.texts.pool.now l.t.texts.records.now l.t.nodes.now l.t.links.now l.t.numbers.now l.depth) l.t.texts.pool.now l.t.texts.records.now l.t.nodes.now l.t.links.now l.a l.b) l.k l.k-end ≡ equal_objects_of (equal_at l.way l.t.texts.pool.now l.t.texts.records.now l.t.nodes.now l.t.links.now l.t.numbers.now l.depth) l.t.texts.pool.now l.t.texts.records.now l.t.nodes.now l.t.links.now l.a l.b)

@@ -5,7 +5,4 @@ use Rattle.judge.specs.Judge.{any_repeated}
 use Rattle.listed.proofs.any_repeated.Given as goal
 
 abbrev pub invariant-loop-i : goal.invariant-loop-i
-invariant-loop-i l = any_repeated l.way l.pool l.texts l.nodes l.links l.numbers (slice l.links (l.first + l.i) (l.count - l.i)) ≡ any_repeated l.way l.pool l.texts l.nodes l.links l.numbers (slice l.links l.first l.count)
-
-abbrev pub decreases-loop-i : goal.decreases-loop-i
-decreases-loop-i l = l.count - l.i
+invariant-loop-i l = any_repeated l.way l.t.texts.pool.now l.t.texts.records.now l.t.nodes.now l.t.links.now l.t.numbers.now (slice l.t.links.now (l.first + l.i) (l.count - l.i)) ≡ any_repeated l.way l.t.texts.pool.now l.t.texts.records.now l.t.nodes.now l.t.links.now l.t.numbers.now (slice l.t.links.now l.first l.count)

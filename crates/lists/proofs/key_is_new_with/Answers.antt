@@ -1,17 +1,18 @@
-use native.Mathlib.Omega.{arith}
-use borrow.Author.Rules.{rules}
-use Rattle.layout.proofs.Walk.{every_more, every-stop, every-end}
-use Rattle.lists.proofs.Below.{keys_same, keys_other, new_is}
+use mathlib.Core.Path.{refl}
+use Prim.Native.Nat.{ℕ, ◌-◌}
+use mathlib.Core.Bool.{Bool, not}
+use Rattle.std.proofs.Common.{rules, tests}
+use Rattle.std.proofs.lemmas.Iterator.{YieldsList-from_range}
+use Rattle.std.proofs.lemmas.Iterator.Search.{all_from_yields_List}
+use Rattle.text.specs.Text.{same_text}
+use Rattle.layout.specs.Layout.{pair_key}
+use Rattle.lists.specs.Lists.{keys_differ, key_is_new}
+use Rattle.lists.proofs.Walked.{from_range}
 use Rattle.lists.proofs.key_is_new_with.Goals as goal
 
-pub loop-i-init : goal.loop-i-init
-loop-i-init c = (search rules, search rules, new_is _ _ _ _ _)
-
-pub returns-then-is_text : goal.returns-then-is_text
-returns-then-is_text c = every-stop _ _ _ c.loop-i.invariant.2 (omega arith) (keys_same _ _ _ _ _ _ (cc))
-
-pub loop-i-preserved : goal.loop-i-preserved
-loop-i-preserved c = (search rules, search rules, every_more _ _ _ c.loop-i.invariant.2 (omega arith) (keys_other _ _ _ _ _ _ (cc)))
-
 pub returns : goal.returns
-returns c = every-end _ _ _ c.loop-i.invariant.2 (omega arith) (omega arith)
+unfolding key_is_new keys_differ
+returns c =
+    let f : ℕ → Bool = λ i. not (same_text c.args.t.now.texts.pool.now c.args.t.now.texts.records.now (pair_key c.args.t.now.links.now c.args.first i) c.pair_key-key.result) in
+    let all = all_from_yields_List f _ _ c.all.result c.all.ensures.ran (YieldsList-from_range 0 c.args.j (c.args.j - 0) (cc) refl) (λ x b q k. search (rules, tests)) in
+    rw c.pair_key-key.ensures at (from_range f 0 c.args.j all)

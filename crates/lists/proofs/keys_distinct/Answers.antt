@@ -1,17 +1,15 @@
-use native.Mathlib.Omega.{arith}
-use borrow.Author.Rules.{rules}
-use Rattle.layout.proofs.Walk.{every_more, every-stop, every-end}
+use Prim.Native.Nat.{◌-◌}
+use mathlib.Core.Path.{refl, ◌∙◌}
+use Rattle.std.proofs.Common.{rules, tests}
+use Rattle.std.proofs.lemmas.Iterator.{YieldsList-from_range}
+use Rattle.std.proofs.lemmas.Iterator.Search.{all_from_yields_List}
+use Rattle.lists.specs.Lists.{key_is_new}
+use Rattle.lists.proofs.Walked.{from_range}
 use Rattle.lists.proofs.Below.{distinct_is}
 use Rattle.lists.proofs.keys_distinct.Goals as goal
 
-pub loop-j-init : goal.loop-j-init
-loop-j-init c = (search rules, distinct_is _ _ _ _ _)
-
-pub loop-j-preserved : goal.loop-j-preserved
-loop-j-preserved c = (search rules, every_more _ _ _ c.loop-j.invariant.1 (omega arith) (cc))
-
-pub returns-else-key_is_new : goal.returns-else-key_is_new
-returns-else-key_is_new c = every-stop _ _ _ c.loop-j.invariant.1 (omega arith) (cc)
-
 pub returns : goal.returns
-returns c = every-end _ _ _ c.loop-j.invariant.1 (omega arith) (omega arith)
+returns c =
+    let f = key_is_new c.args.t.now.texts.pool.now c.args.t.now.texts.records.now c.args.t.now.links.now c.args.first in
+    let all = all_from_yields_List f _ _ c.all.result c.all.ensures.ran (YieldsList-from_range 0 c.args.count (c.args.count - 0) (cc) refl) (λ x b q k. search (rules, tests)) in
+    from_range f 0 c.args.count all ∙ distinct_is _ _ _ _ _

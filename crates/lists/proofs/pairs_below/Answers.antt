@@ -1,20 +1,19 @@
-use native.Mathlib.Omega.{arith}
-use borrow.Author.Rules.{rules}
-use Rattle.layout.proofs.Walk.{every_more, every-stop, every-end}
-use Rattle.lists.proofs.Below.{pairs-out, pairs_in}
+use Prim.Native.Nat.{◌-◌}
+use mathlib.Core.Path.{refl, ◌∙◌}
+use borrow.Author.Tests.{lt-leb}
+use Rattle.std.proofs.Common.{rules, tests}
+use Rattle.std.proofs.lemmas.Iterator.{YieldsList-from_range}
+use Rattle.std.proofs.lemmas.Iterator.Search.{all_from_yields_List}
+use Rattle.lists.specs.Lists.{pair_ok}
+use Rattle.lists.proofs.Walked.{from_range}
+use Rattle.lists.proofs.Below.{pairs_in, pairs-out}
 use Rattle.lists.proofs.pairs_below.Goals as goal
 
-pub returns-then-links-first : goal.returns-then-links-first
-returns-then-links-first c = pairs-out _ _ _ _ _ (omega arith)
+pub returns-then-first-count : goal.returns-then-first-count
+returns-then-first-count c =
+    let f = pair_ok c.args.t.now.links.now c.args.first c.args.known c.args.limit in
+    let all = all_from_yields_List f _ _ c.all.result c.all.ensures.ran (YieldsList-from_range 0 c.args.count (c.args.count - 0) (cc) refl) (λ x b q k. search (rules, tests)) in
+    from_range f 0 c.args.count all ∙ pairs_in _ _ _ _ _ c.if-first-count.true
 
-pub loop-k-init : goal.loop-k-init
-loop-k-init c = (search rules, pairs_in _ _ _ _ _ (omega arith))
-
-pub loop-k-preserved : goal.loop-k-preserved
-loop-k-preserved c = (search rules, every_more _ _ _ c.loop-k.invariant.1 (omega arith) (cc))
-
-pub returns-else-pair_ok : goal.returns-else-pair_ok
-returns-else-pair_ok c = every-stop _ _ _ c.loop-k.invariant.1 (omega arith) (cc)
-
-pub returns : goal.returns
-returns c = every-end _ _ _ c.loop-k.invariant.1 (omega arith) (omega arith)
+pub returns-else-first-count : goal.returns-else-first-count
+returns-else-first-count c = lt-leb _ _ c.if-first-count.false ∙ pairs-out _ _ _ _ _ c.if-first-count.false

@@ -6,4 +6,4 @@ use Rattle.lookup.proofs.item.Goals as goal
 
 pub returns : goal.returns
 unfolding item_node
-returns c = c.word.ensures ∙ ap (λ (first : ℕ). get_or c.args.links.now (first + c.args.k) 0) c.node_a-first.ensures
+returns c = c.link.ensures ∙ ap (λ (first : ℕ). get_or c.args.t.now.links.now (first + c.args.k) 0) c.node_a-first.ensures

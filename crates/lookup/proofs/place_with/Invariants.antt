@@ -5,7 +5,4 @@ use Rattle.lookup.specs.Lookup.{pair_has_key}
 use Rattle.lookup.proofs.place_with.Given as goal
 
 abbrev pub invariant-loop-k : goal.invariant-loop-k
-invariant-loop-k l = first_from (pair_has_key l.pool l.texts l.links l.first l.text) l.k (l.count - l.k) ≡ first_from (pair_has_key l.pool l.texts l.links l.first l.text) 0 l.count
-
-abbrev pub decreases-loop-k : goal.decreases-loop-k
-decreases-loop-k l = l.count - l.k
+invariant-loop-k l = first_from (pair_has_key l.t.texts.pool.now l.t.texts.records.now l.t.links.now l.first l.text) l.k (l.count - l.k) ≡ first_from (pair_has_key l.t.texts.pool.now l.t.texts.records.now l.t.links.now l.first l.text) 0 l.count

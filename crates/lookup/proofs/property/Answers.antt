@@ -1,8 +1,9 @@
+use mathlib.Core.Path.{◌∙◌}
 use Rattle.lookup.proofs.Keys.{place_value, place_none}
 use Rattle.lookup.proofs.property.Goals as goal
 
-pub returns-in-At : goal.returns-in-At
-returns-in-At c = place_value _ _ _ _ _ _ c.property_place.ensures c.in-At.is c.pair_value.ensures
+pub returns-in_err-k : goal.returns-in_err-k
+returns-in_err-k c = c.from_residual.ensures ∙ place_none _ _ _ _ _ _ c.property_place.ensures c.in_err-k.was
 
-pub returns-in-Nothing : goal.returns-in-Nothing
-returns-in-Nothing c = place_none _ _ _ _ _ _ c.property_place.ensures c.in-Nothing.is
+pub returns : goal.returns
+returns c = place_value _ _ _ _ _ _ c.property_place.ensures c.in_ok-k.was c.pair_value.ensures

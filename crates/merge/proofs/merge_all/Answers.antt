@@ -1,18 +1,14 @@
-use native.Mathlib.Omega.{arith}
 use Rattle.merge.proofs.Laws as laws
 use Rattle.merge.proofs.merge_all.Goals as goal
 
-pub loop-j-init : goal.loop-j-init
-loop-j-init c = laws.gathering_none _ _ _ _ _ _ _ _ _ c.requires
+pub loop-base-init : goal.loop-base-init
+loop-base-init c = laws.gathering_none _ _ _ _ _ _
 
-pub put_pairs-p-requires : goal.put_pairs-p-requires
-put_pairs-p-requires c = laws.gathering_reads _ _ _ _ _ _ _ _ _ _ _ _ c.loop-j.invariant
+pub returns-in_err-n : goal.returns-in_err-n
+returns-in_err-n c = rw c.from_residual.ensures (laws.gathering_full _ _ _ _ _ _ _ _ _ c.loop-base.invariant c.loop-base-test.true _ _ c.schema_word-first.ensures c.schema_word-count.ensures _ c.in_err-n.ensures)
 
-pub returns-then-p : goal.returns-then-p
-returns-then-p c = laws.gathering_full _ _ _ _ _ _ _ _ _ _ _ _ c.loop-j.invariant (omega arith) _ _ _ c.word-b.ensures c.field-first.ensures c.field-n.ensures _ _ c.put_pairs-p.ensures c.if-p.true _
-
-pub loop-j-preserved : goal.loop-j-preserved
-loop-j-preserved c = laws.gathering_more _ _ _ _ _ _ _ _ _ _ _ _ c.loop-j.invariant (omega arith) _ _ _ c.word-b.ensures c.field-first.ensures c.field-n.ensures _ _ c.put_pairs-p.ensures c.if-p.false
+pub loop-base-preserved : goal.loop-base-preserved
+loop-base-preserved c = laws.gathering_more _ _ _ _ _ _ _ _ _ c.loop-base.invariant c.loop-base-test.true _ _ c.schema_word-first.ensures c.schema_word-count.ensures _ _ c.in_ok-n.ensures
 
 pub returns : goal.returns
-returns c = laws.gathering_end _ _ _ _ _ _ _ _ _ _ _ _ c.loop-j.invariant (omega arith)
+returns c = laws.gathering_end _ _ _ _ _ _ _ _ _ c.loop-base.invariant c.loop-base-test.false

@@ -1,15 +1,12 @@
-use Rattle.merge.proofs.Laws as laws
 use Rattle.text.specs.Text.{same_text}
+use Rattle.merge.proofs.Laws as laws
 use Rattle.merge.proofs.merge_pairs.Goals as goal
 
-pub merge_all-p-requires : goal.merge_all-p-requires
-merge_all-p-requires c = c.requires.gathers
-
-pub returns-then-p : goal.returns-then-p
-returns-then-p c = laws.joining_full (same_text c.args.pool.now c.args.texts.now) _ _ _ c.args.own c.args.first c.args.n _ _ c.merge_all-p.ensures c.if-p.true _
+pub returns-in_err-n : goal.returns-in_err-n
+returns-in_err-n c = rw c.from_residual.ensures (laws.joining_full (same_text c.args.texts.now.pool.now c.args.texts.now.records.now) c.args.own_links.now _ _ c.args.first c.args.count _ c.in_err-n.ensures)
 
 pub put_pairs-requires : goal.put_pairs-requires
-put_pairs-requires c = laws.joining_reads (same_text c.args.pool.now c.args.texts.now) _ _ _ c.args.own c.args.first c.args.n _ _ c.merge_all-p.ensures c.if-p.false c.requires.low
+put_pairs-requires c = laws.joining_fits (same_text c.args.texts.now.pool.now c.args.texts.now.records.now) c.args.own_links.now _ _ c.args.first c.args.count _ _ c.in_ok-n.ensures
 
 pub returns : goal.returns
-returns c = laws.joining_end (same_text c.args.pool.now c.args.texts.now) _ _ _ c.args.own c.args.first c.args.n _ _ c.merge_all-p.ensures c.if-p.false c.requires.low _ _ c.put_pairs.ensures
+returns c = laws.joining_end (same_text c.args.texts.now.pool.now c.args.texts.now.records.now) c.args.own_links.now _ _ c.args.first c.args.count _ _ c.in_ok-n.ensures _ _ c.put_pairs.ensures

@@ -1,17 +1,11 @@
 use Rattle.merge.proofs.Laws as laws
 use Rattle.merge.proofs.put_pairs.Goals as goal
 
-pub loop-i-init : goal.loop-i-init
-loop-i-init c = laws.merging_none _ _ _ _ _ _ _ c.requires
+pub returns-in_err-n : goal.returns-in_err-n
+returns-in_err-n c = rw c.from_residual.ensures (laws.merging_full _ _ _ _ _ _ _ _ _ c.loop-k.invariant c.loop-k-test.true _ _ c.pair_key-key.ensures c.pair_value-value.ensures _ c.in_err-n.ensures)
 
-pub put_pair-p-requires : goal.put_pair-p-requires
-put_pair-p-requires c = laws.merging_room _ _ _ _ _ _ _ _ _ _ _ c.loop-i.invariant
-
-pub returns-then-p : goal.returns-then-p
-returns-then-p c = laws.merging_full _ _ _ _ _ _ _ _ _ _ _ c.loop-i.invariant c.loop-i-test.true _ _ c.word-key.ensures c.word-val.ensures _ _ c.put_pair-p.ensures c.if-p.true _
-
-pub loop-i-preserved : goal.loop-i-preserved
-loop-i-preserved c = laws.merging_more _ _ _ _ _ _ _ _ _ _ _ c.loop-i.invariant c.loop-i-test.true _ _ c.word-key.ensures c.word-val.ensures _ _ c.put_pair-p.ensures c.if-p.false
+pub loop-k-preserved : goal.loop-k-preserved
+loop-k-preserved c = laws.merging_more _ _ _ _ _ _ _ _ _ c.loop-k.invariant c.loop-k-test.true _ _ c.pair_key-key.ensures c.pair_value-value.ensures _ _ c.in_ok-n.ensures
 
 pub returns : goal.returns
-returns c = laws.merging_end _ _ _ _ _ _ _ _ _ _ _ c.loop-i.invariant c.loop-i-test.false
+returns c = laws.merging_end _ _ _ _ _ _ _ _ _ c.loop-k.invariant c.loop-k-test.false

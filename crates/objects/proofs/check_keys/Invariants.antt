@@ -6,7 +6,4 @@ use Rattle.judge.specs.Judge.{is_duplicate}
 use Rattle.objects.proofs.check_keys.Given as goal
 
 abbrev pub invariant-loop-k : goal.invariant-loop-k
-invariant-loop-k l = first_from (is_duplicate l.pool l.texts l.nodes l.links l.n) l.k (l.count - l.k) ≡ first_from (is_duplicate l.pool l.texts l.nodes l.links l.n) 0 (node_b l.nodes l.n)
-
-abbrev pub decreases-loop-k : goal.decreases-loop-k
-decreases-loop-k l = l.count - l.k
+invariant-loop-k l = first_from (is_duplicate l.t.texts.pool.now l.t.texts.records.now l.t.nodes.now l.t.links.now l.n) l.k (l.count - l.k) ≡ first_from (is_duplicate l.t.texts.pool.now l.t.texts.records.now l.t.nodes.now l.t.links.now l.n) 0 (node_b l.t.nodes.now l.n)

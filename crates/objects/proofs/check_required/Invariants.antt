@@ -6,7 +6,4 @@ use Rattle.judge.specs.Judge.{required_verdict}
 use Rattle.objects.proofs.check_required.Given as goal
 
 abbrev pub invariant-loop-i : goal.invariant-loop-i
-invariant-loop-i l = required_verdict l.pool l.texts l.nodes l.links (properties_first l.schemas l.s) (properties_count l.schemas l.s) l.n (slice l.links (l.first + l.i) (l.count - l.i)) ≡ required_verdict l.pool l.texts l.nodes l.links (properties_first l.schemas l.s) (properties_count l.schemas l.s) l.n (slice l.links (required_first l.schemas l.s) (required_count l.schemas l.s))
-
-abbrev pub decreases-loop-i : goal.decreases-loop-i
-decreases-loop-i l = l.count - l.i
+invariant-loop-i l = required_verdict l.t.texts.pool.now l.t.texts.records.now l.t.nodes.now l.t.links.now (properties_first l.t.schemas.now l.s) (properties_count l.t.schemas.now l.s) l.n (slice l.t.links.now (l.first + l.i) (l.count - l.i)) ≡ required_verdict l.t.texts.pool.now l.t.texts.records.now l.t.nodes.now l.t.links.now (properties_first l.t.schemas.now l.s) (properties_count l.t.schemas.now l.s) l.n (slice l.t.links.now (required_first l.t.schemas.now l.s) (required_count l.t.schemas.now l.s))

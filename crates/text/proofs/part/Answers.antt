@@ -1,7 +1,7 @@
 use native.Mathlib.Omega.{arith}
 use mathlib.Core.Path.{sym, ◌∙◌}
 use native.Mathlib.Nat.{add-sub_cancel_left}
-use Rattle.text.proofs.Texts.{fits_true, part_in, part_out}
+use Rattle.text.proofs.Parts.{fits_true, part_in, part_out}
 use Rattle.text.proofs.part.Goals as goal
 
 pub overflow_add-result : goal.overflow_add-result

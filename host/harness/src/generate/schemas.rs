@@ -3,7 +3,9 @@
 use super::build::Build;
 use super::values::{INTEGERS, REALS};
 use quarto_yaml_tables::layout::node;
-use quarto_yaml_tables::{ArrayRules, Node, NumberRules, Schema, StringRules};
+use quarto_yaml_tables::{
+    ArrayRules, Node, Note, NumberRules, Schema, StringRules, TableError, Tables,
+};
 
 impl Build<'_> {
     /// A schema of at most this depth, mostly one that fits the node.
@@ -54,23 +56,21 @@ impl Build<'_> {
     /// A schema of any simple kind.
     fn leaf_schema(&mut self) -> Schema {
         match self.rng.below(5) {
-            0 => self.boolean_schema(),
-            1 => self.null_schema(),
+            0 => self.noted_schema(Tables::boolean_schema),
+            1 => self.noted_schema(Tables::null_schema),
             2 => self.number_schema(None),
             3 => self.string_schema(None),
             _ => self.enum_schema(None),
         }
     }
 
-    fn boolean_schema(&mut self) -> Schema {
+    /// A schema of a kind that has nothing but its note.
+    fn noted_schema(
+        &mut self,
+        add: fn(&mut Tables, Option<Note>) -> Result<Schema, TableError>,
+    ) -> Schema {
         let note = self.some_note();
-        let schema = self.tables.boolean_schema(note);
-        self.keep_schema(schema)
-    }
-
-    fn null_schema(&mut self) -> Schema {
-        let note = self.some_note();
-        let schema = self.tables.null_schema(note);
+        let schema = add(&mut self.tables, note);
         self.keep_schema(schema)
     }
 
@@ -80,8 +80,8 @@ impl Build<'_> {
         };
         let [kind, first, count, _] = self.tables.raw().node(target.get());
         match kind {
-            node::NULL | node::ALIAS | node::BAD_VALUE => self.null_schema(),
-            node::BOOLEAN => self.boolean_schema(),
+            node::NULL | node::ALIAS | node::BAD_VALUE => self.noted_schema(Tables::null_schema),
+            node::BOOLEAN => self.noted_schema(Tables::boolean_schema),
             node::INTEGER | node::REAL => {
                 let value = self.value_of(kind, first);
                 self.number_schema(value)

@@ -1,8 +1,6 @@
+use mathlib.Core.Path.{◌∙◌}
 use Rattle.json_equality.proofs.Steps as steps
 use Rattle.json_equality.proofs.keys.is_last.Goals as goal
 
-pub returns-in-At : goal.returns-in-At
-returns-in-At c = steps.last_is _ _ _ _ _ _ c.last_entry-last.ensures _ c.in-At.is
-
-pub returns-in-Nothing : goal.returns-in-Nothing
-returns-in-Nothing c = steps.last_missing _ _ _ _ _ _ c.last_entry-last.ensures _ c.in-Nothing.is
+pub returns : goal.returns
+returns c = c.eq.ensures ∙ steps.last_at _ _ _ _ _ _ c.last_entry.ensures _

@@ -10,4 +10,4 @@ returns-then-place-eq-NONE c = sym (pick_yes _ _ (eq-eqb _ _ c.if-place-eq-NONE.
 
 pub returns : goal.returns
 unfolding parsed_shape
-returns c = c.real_shape.ensures ∙ ap real_shape c.number_word.ensures ∙ sym (pick_no _ _ (ne_eqb _ _ c.if-place-eq-NONE.false))
+returns c = c.real_shape.ensures ∙ ap real_shape c.number.ensures ∙ sym (pick_no _ _ (ne_eqb _ _ c.if-place-eq-NONE.false))

@@ -5,7 +5,7 @@ pub returns-in-1 : goal.returns-in-1
 returns-in-1 c = shapes.is_boolean_shape _ _ _ c.node_kind.ensures c.in-1.is c.node_a-a.ensures
 
 pub returns-in-2 : goal.returns-in-2
-returns-in-2 c = shapes.is_integer_shape _ _ _ c.node_kind.ensures c.in-2.is c.node_a-a.ensures c.number_word.ensures
+returns-in-2 c = shapes.is_integer_shape _ _ _ c.node_kind.ensures c.in-2.is c.node_a-a.ensures c.number.ensures
 
 pub returns-in-3 : goal.returns-in-3
 returns-in-3 c = shapes.is_real_shape _ _ _ c.node_kind.ensures c.in-3.is c.node_b.ensures c.parsed_shape.ensures

@@ -7,7 +7,7 @@ use Rattle.navigate.proofs.path.first_bad_step.Goals as goal
 
 pub loop-i-init : goal.loop-i-init
 unfolding first_bad_step
-loop-i-init c = (c.step_count-n.ensures, omega arith, ap (first (step_ok c.args.count c.args.path.now) 0) c.step_count-n.ensures)
+loop-i-init c = (c.step_count-n.ensures, ap (first (step_ok c.args.count c.args.path.now) 0) c.step_count-n.ensures)
 
 pub overflow_mul-i : goal.overflow_mul-i
 unfolding step_count
@@ -38,10 +38,10 @@ unfolding step_count
 bounds-path-i-in-loop-i c = omega arith
 
 pub loop-i-preserved : goal.loop-i-preserved
-loop-i-preserved c = (c.loop-i.invariant.0, omega arith, first_more _ _ _ c.loop-i.invariant.2 c.loop-i-test.true (sym c.words_ok.ensures ∙ c.if-words_ok.true))
+loop-i-preserved c = (c.loop-i.invariant.0, first_more _ _ _ c.loop-i.invariant.1 (omega arith) (sym c.words_ok.ensures ∙ c.if-not-words_ok.false))
 
-pub returns-else-words_ok : goal.returns-else-words_ok
-returns-else-words_ok c = first_stop _ _ _ c.loop-i.invariant.2 c.loop-i-test.true (sym c.words_ok.ensures ∙ c.if-words_ok.false)
+pub returns-then-not-words_ok : goal.returns-then-not-words_ok
+returns-then-not-words_ok c = first_stop _ _ _ c.loop-i.invariant.1 (omega arith) (sym c.words_ok.ensures ∙ c.if-not-words_ok.true)
 
 pub returns : goal.returns
-returns c = first_end _ _ _ c.loop-i.invariant.2 c.loop-i.invariant.1 c.loop-i-test.false
+returns c = first_end _ _ _ c.loop-i.invariant.1 (omega arith) (omega arith)

@@ -1,5 +1,6 @@
-use Rattle.replay.proofs.Called.{tables_same, navigated}
+use Rattle.std.proofs.Common.{refl}
+use Rattle.replay.proofs.Called.{navigated}
 use Rattle.replay.proofs.navigation.find.Goals as goal
 
 pub returns : goal.returns
-returns c = navigated _ _ _ _ (tables_same _ _ _ _ c.part.ensures c.part-2.ensures c.part-3.ensures c.part-4.ensures c.part-5.ensures c.part-6.ensures c.part-7.ensures) c.word.ensures c.word-2.ensures c.qy_navigate.ensures
+returns c = navigated _ _ _ _ refl c.word-node.ensures c.word-key_wanted.ensures c.qy_navigate.ensures

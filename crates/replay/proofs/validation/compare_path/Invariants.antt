@@ -1,11 +1,8 @@
-use Rattle.std.proofs.Common.{◌≡◌, ◌-◌, ◌≤◌, get_or}
+use Rattle.std.proofs.Common.{◌≡◌, get_or}
 use Rattle.replay.specs.Answer.{wrong_in}
 use Rattle.replay.specs.Calls.{path_word}
 use Rattle.replay.proofs.validation.compare_path.Given as goal
 
--- `replay::validation::compare_path`: the first words are judged, one more at each turn; the measure is how many words are left. Assumes nothing.
+-- the first words are judged, one more at each turn
 abbrev pub invariant-loop-k : goal.invariant-loop-k
-invariant-loop-k l = (l.k ≤ l.length) × (l.wrong ≡ wrong_in (path_word l.input l.at l.count) (λ j. get_or l.path j 0) l.k l.before)
-
-abbrev pub decreases-loop-k : goal.decreases-loop-k
-decreases-loop-k l = l.length - l.k
+invariant-loop-k l = l.wrong ≡ wrong_in (path_word l.input l.at l.count) (λ j. get_or l.path j 0) l.k l.before

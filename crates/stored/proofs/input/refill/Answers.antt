@@ -5,9 +5,6 @@ use Rattle.stored.proofs.input.refill.Goals as goal
 pub returns-then-at-end : goal.returns-then-at-end
 returns-then-at-end c = refilled_same _ _ _
 
-pub returns-then-end-input : goal.returns-then-end-input
-returns-then-end-input c = refilled_same _ _ _
-
 pub returns-then-count-ge-GROUP_WORDS : goal.returns-then-count-ge-GROUP_WORDS
 returns-then-count-ge-GROUP_WORDS c = refilled_same _ _ _
 

@@ -6,7 +6,7 @@ use Rattle.rules.specs.Schemas.{schema_ok}
 use Rattle.tables.proofs.walk.schemas_fault.Given as goal
 
 abbrev pub invariant-loop-schema : goal.invariant-loop-schema
-invariant-loop-schema l = (l.schema ≤ schema_count l.schemas) × (first (schema_ok l.z l.pool l.texts l.links l.schemas) l.schema (schema_count l.schemas) ≡ first (schema_ok l.z l.pool l.texts l.links l.schemas) 0 (schema_count l.schemas))
+invariant-loop-schema l = (l.schema ≤ schema_count l.t.schemas.now) × (first (schema_ok l.z l.t.texts.pool.now l.t.texts.records.now l.t.links.now l.t.schemas.now) l.schema (schema_count l.t.schemas.now) ≡ first (schema_ok l.z l.t.texts.pool.now l.t.texts.records.now l.t.links.now l.t.schemas.now) 0 (schema_count l.t.schemas.now))
 
 abbrev pub decreases-loop-schema : goal.decreases-loop-schema
-decreases-loop-schema l = schema_count l.schemas - l.schema
+decreases-loop-schema l = schema_count l.t.schemas.now - l.schema

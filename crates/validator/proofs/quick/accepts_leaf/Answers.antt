@@ -6,7 +6,7 @@ pub returns-then-level-eq0 : goal.returns-then-level-eq0
 returns-then-level-eq0 c = says_nothing _
 
 pub returns-in-1 : goal.returns-in-1
-returns-in-1 c = accepts-boolean _ _ _ _ _ _ c.if-level-eq0.false c.schema_kind.ensures _ _ c.is_fine.ensures c.validate_boolean.ensures c.in-1.is
+returns-in-1 c = accepts-boolean _ _ _ _ _ _ c.if-level-eq0.false c.schema_kind.ensures _ _ c.is_ok.ensures.value c.validate_boolean.ensures c.in-1.is
 
 pub returns-in-2 : goal.returns-in-2
 returns-in-2 c = glance_number _ _ _ _ _ _ c.if-level-eq0.false c.schema_kind.ensures _ c.number_passes.ensures c.in-2.is

@@ -1,7 +1,0 @@
-use Rattle.layout.specs.Layout.{note_count}
-use mathlib.Core.Path.{refl}
-use Rattle.layout.proofs.words.note_count.Goals as goal
-
-pub returns : goal.returns
-unfolding note_count
-returns c = refl

@@ -1,7 +1,0 @@
-use Rattle.layout.specs.Layout.{schema_count}
-use mathlib.Core.Path.{refl}
-use Rattle.layout.proofs.words.schema_count.Goals as goal
-
-pub returns : goal.returns
-unfolding schema_count
-returns c = refl

@@ -1,7 +1,0 @@
-use mathlib.Core.Path.{refl}
-use Rattle.text.specs.Text.{text_count}
-use Rattle.text.proofs.text_count.Goals as goal
-
-pub returns : goal.returns
-unfolding text_count
-returns c = refl
