@@ -135,19 +135,20 @@ module _ (P T R : List ℕ) (b u : Used) (N S L X X' : List ℕ) (sp : ℕ) (C :
               long = omega (arith, rd.long);
             }
 
-        merge_is : (count ≡ 0 → ⊥) → derived_at C (compile_at C below) st s ≡ merge_at C st₁ s (span X' sp 1 count)
+        merge_is : (count ≡ 0 → ⊥) → derived_at C (compile_at C below) st s ≡ merge_at C st₁ s (take count (drop sp X'))
         unfolding derived_at
-        merge_is q = rw (run_is, many_are z, ns_are, state-schemas, o, ← e15, ne_eqb count 0 q)
+        merge_is q = rw (many_are z, ns_are, state-schemas, o, ← e15, ne_eqb count 0 q)
 
-        pub derived_join : (count ≡ 0 → ⊥) → (C' : Source) (N' S' L' X₂ : List ℕ) (r : Told) → Built (merge_at (source_of P T R b N S L) st₁ s (span X' sp 1 count)) (source_of P T R b N S L) C' m.used N' S' L' X' X₂ sp r → Built (derived_at C (compile_at C below) st s) C C' u N' S' L' X X₂ sp r
-        derived_join q C' N' S' L' X₂ r bt =
+        -- whatever stack the merge saw: the one here stays
+        pub derived_join : (count ≡ 0 → ⊥) → (bs : List ℕ) → bs ≡ take count (drop sp X') → (C' : Source) (N' S' L' Y Y' : List ℕ) (top : ℕ) (r : Told) → Built (merge_at (source_of P T R b N S L) st₁ s bs) (source_of P T R b N S L) C' m.used N' S' L' Y Y' top r → Built (derived_at C (compile_at C below) st s) C C' u N' S' L' X X' sp r
+        derived_join q bs e C' N' S' L' Y Y' top r bt =
             record {
-              answer = bt.answer ∙ ap (λ (D : Source). merge_at D st₁ s (span X' sp 1 count)) ea.ran.source ∙ sym (merge_is q);
+              answer = bt.answer ∙ ap (λ (D : Source). merge_at D st₁ s bs) ea.ran.source ∙ ap (merge_at C st₁ s) e ∙ sym (merge_is q);
               ran =
                   record {
                     source = bt.ran.source ∙ ea.ran.source;
-                    stack = bt.ran.stack ∙ ea.ran.stack;
-                    long = bt.ran.long ∙ ea.ran.long;
+                    stack = ea.ran.stack;
+                    long = ea.ran.long;
                     notes = omega (arith, ea.ran.notes, bt.ran.notes);
                     schemas = omega (arith, ea.ran.schemas, bt.ran.schemas);
                     links = omega (arith, ea.ran.links, bt.ran.links);

@@ -196,6 +196,14 @@ module _ (P T R : List ℕ) (b u : Used) (X : List ℕ) (sp : ℕ) (C : Source) 
                       rise = λ q. omega (arith, ran₄.schemas, bt.rise q);
                     }
 
+                -- the same where the stack was out of the work meanwhile
+                pub plain_done_on : (N₅ S₅ L₅ Y : List ℕ) (r : Told) → Y ≡ X₄ → Built (laid_at C₄ (state_of d.used N₄ S₄ L₄) s (values_at C₄ below s 2 3 Y sp) (values_at C₄ below s 4 5 Y m.top) a.rec d.rec) C₄ (source_of P T R b N₅ S₅ L₅) d.used N₅ S₅ L₅ Y Y sp r → Built whole C (source_of P T R b N₅ S₅ L₅) u N₅ S₅ L₅ X Y sp r
+                plain_done_on N₅ S₅ L₅ Y r e bt = rw e (plain_done N₅ S₅ L₅ X₄ r (rw e at bt))
+
+-- a stack under another name
+pub ready_same : {b u : Used} {X Y : List ℕ} {sp mid : ℕ} → Y ≡ X → LayReady b u X sp mid → LayReady b u Y sp mid
+ready_same e r = rw e r
+
 -- an object by its bases
 pub node-plain : (C : Source) (go : State → ℕ → Out) (st : State) (s kind : ℕ) (plain : Bool) → kind ≡ field C s 0 → (kind ≡ 9 → ⊥) → kind ≡ 10 → plain ≡ eqb (field C s 14) NONE → plain ≡ true → node_at C go st s ≡ plain_at C go st s
 unfolding node_at

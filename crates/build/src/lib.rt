@@ -13,7 +13,6 @@ ghost use Rattle.put.specs.Chase.{lead_in, next, weave_at};
 ghost use Rattle.put.specs.Meets.{Listed};
 ghost use Rattle.build.specs.Meets.{Compiles, CompilesEach, CompilesOrNone, Pushable, EachReady};
 
-use derive::run::Run;
 use derive::{Made, Origin, Work, finish, merge_object_schemas};
 use error::{Failure, Used};
 use inherit::objects;
@@ -26,6 +25,7 @@ use layout::schema::{
 use layout::words::{NONE, SCHEMA_WORDS};
 use merge::{first_words, word, words_from};
 use put::{Lead, PATTERN_COUNT, PROPERTY_COUNT, chase, is_plain, put_list, put_object};
+use std::mem;
 
 // A list's count stands after its first place.
 const LIST_COUNT: u32 = LIST + 1;
@@ -233,14 +233,14 @@ fn group(
     finish(work.schemas, v, rec)
 }
 
-// Whether the records that a run of the stack names are objects.
-fn are_objects(work: &Work, us: u32, run: Run) -> bool
+// Whether the records that count numbers of the stack name, from its place sp on, are objects.
+fn are_objects(work: &Work, us: u32, sp: u32, count: u32) -> bool
     ensures { let records = take (us * schema_words) work.now.schemas.now in
-        result ≡ all_objects records (take run.count (drop run.from work.now.stack.now)) }
+        result ≡ all_objects records (take count (drop sp work.now.stack.now)) }
 {
     objects(
         first_words(work.schemas, (us as usize) * SCHEMA_WORDS),
-        words_from(work.stack, run.from as usize, run.count as usize),
+        words_from(work.stack, sp as usize, count as usize),
     )
 }
 
@@ -281,14 +281,18 @@ fn derived(
     if top != want {
         return Err(Failure::BaseNotObject);
     }
-    let run = Run { from: sp, count };
-    if !are_objects(work, u.schemas, run) {
+    if !are_objects(work, u.schemas, sp, count) {
         return Err(Failure::BaseNotObject);
     }
     if count == 0 {
         return Err(Failure::NoBases);
     }
-    merge_object_schemas(origin, work, links, s, u, run)
+    // the bases are a part of the stack, which is out of the work while that is lent to be written
+    let stack = mem::replace(&mut work.stack, &mut []);
+    let bases = words_from(stack, sp as usize, count as usize);
+    let made = merge_object_schemas(origin, work, links, s, u, bases);
+    work.stack = stack;
+    made
 }
 
 // A plain object: its children in order, each list's numbers on the stack above those of the list before it.
@@ -339,9 +343,23 @@ fn plain(
     )?;
     let c = perhaps(origin, work, links, below, item, b.used, b.top)?;
     let d = perhaps(origin, work, links, below, name, c.used, b.top)?;
-    put_object(
-        origin, work, links, below, s, d.used, sp, a.top, c.rec, d.rec,
-    )
+    // the stack is read while the schemas are written, so that it is out of the work meanwhile
+    let stack = mem::replace(&mut work.stack, &mut []);
+    let made = put_object(
+        origin,
+        work.schemas,
+        stack,
+        links,
+        below,
+        s,
+        d.used,
+        sp,
+        a.top,
+        c.rec,
+        d.rec,
+    );
+    work.stack = stack;
+    made
 }
 
 // A schema that may be absent.

@@ -1,6 +1,6 @@
 -- The whole call: where the used tables pass the check, what compiling over the tables gives is what `compiled_of` says. Assumes nothing.
 use Prim.Native.Nat.{ℕ, ◌*◌, ◌/◌, ◌<◌}
-use mathlib.Core.Path.{◌≡◌, refl}
+use mathlib.Core.Path.{◌≡◌, refl, sym, ap, ◌∙◌}
 use mathlib.Core.Bool.{true}
 use native.Mathlib.Omega.{arith}
 use lib.ListN.{length, take}
@@ -37,6 +37,11 @@ to_result (refused k) = refuse k
 same_result : {C : Source} {o : Out} {r : Result ℕ} → Same C o r → to_result o ≡ r
 same_result (made st n g) = refl
 same_result (stopped k) = refl
+
+-- what is made is grown from the source
+made_grown : {C : Source} {o : Out} {r : Result ℕ} → Same C o r → (st : State) (n : ℕ) → o ≡ done st n → Grown C st
+made_grown (made st₁ n₁ g) st n e = let q : st₁ ≡ st = cc in rw q at g
+made_grown (stopped k) st n e = absurd (let z : ◌≡◌ {A = ℕ} 0 1 = cc in omega arith)
 
 -- the used counts are those of the words
 pub counts_are : {C : Source} {st : State} → Grown C st → counts_of (words_in st) ≡ record { notes = st.un; schemas = st.us; links = st.ul }
@@ -88,3 +93,10 @@ module _ (T : Tables) (u : Used) (sound : used_fault T u ≡ Sound) where
   -- the same refusal, or the same record and the same words
   pub bridge : (s : ℕ) → s < u.schemas → to_result (compile_at (source_for T u) levels (state_for T u) s) ≡ compiled_of T u s
   bridge s h = same_result (compiled_same s h)
+
+  -- what the public call has in hand: where it ends well, the words and their counts
+  pub compiled-done : (s : ℕ) → s < u.schemas → {st : State} {n : ℕ} → compile_at (source_for T u) levels (state_for T u) s ≡ done st n → (compiled_of T u s ≡ ok n (words_in st)) × Grown (source_for T u) st
+  compiled-done s h {st} {n} e = (sym (bridge s h) ∙ ap to_result e, made_grown (compiled_same s h) st n e)
+
+  pub compiled-refused : (s : ℕ) → s < u.schemas → {k : ℕ} → compile_at (source_for T u) levels (state_for T u) s ≡ refused k → compiled_of T u s ≡ refuse k
+  compiled-refused s h e = sym (bridge s h) ∙ ap to_result e

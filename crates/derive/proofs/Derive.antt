@@ -4,7 +4,7 @@ use mathlib.Core.Path.{◌≡◌, refl, sym, ap, ◌∙◌}
 use mathlib.Core.Bool.{Bool, true, false}
 use mathlib.Core.List.{List, ◌++◌}
 use native.Mathlib.Omega.{arith}
-use lib.ListN.{length, take, drop, length-append}
+use lib.ListN.{length, take, length-append}
 use Rattle.std.specs.Prelude.{Option, Some, None}
 use lib.Dec.{eqb}
 use borrow.Author.Tests.{le-ltb}
@@ -25,7 +25,7 @@ use Rattle.joins.proofs.Laws.{one_n, tally_n, offered_at}
 use Rattle.compilation.specs.State.{Source, State, done, and_then, source_of, state_of, add_schema, add_links, add_note}
 use Rattle.compilation.specs.Table.{field, merged_note, merged_note_in, merged_pairs, required_at, offers_at, join_links_at, join_row_at, merge_at}
 use Rattle.inherit.specs.Carried.{Carried}
-use Rattle.derive.specs.Meets.{Told, Ready, Ran, Built, Rowed, join_row, rows_of, words_of, used_after, Fits, RowsReady}
+use Rattle.derive.specs.Meets.{Told, Grows, Ran, Built, Rowed, join_row, rows_of, words_of, used_after, Fits, RowsReady}
 use Rattle.inherit.specs.declared.Scalars.{Scalars}
 use Rattle.derive.proofs.Build.{source_same, links-done, links_full, note-done, note_full, refused-built}
 use Rattle.derive.proofs.Rows.{rows-built}
@@ -46,15 +46,12 @@ rows_are : (note at : ℕ) (z : Lists) (x y x' y' : Offers) (k : Scalars) (C : S
 unfolding rows_of join_row
 rows_are note at z x y x' y' k C st p r pq pqr pqra n m least most naming closed ex ey ep er epq epqr epqra en em el eo ec eg = rw (ex, ey, ep, er, epq, epqr, epqra, en, em, el, eo, ec, eg)
 
-module _ (P T R : List ℕ) (b u : Used) (N S L X : List ℕ) (sp count s : ℕ) (rd : Ready b u X sp) where
+module _ (P T R : List ℕ) (b u : Used) (N S L X : List ℕ) (sp s : ℕ) (bs : List ℕ) (rd : Grows b u) where
   abbrev C₀ : Source
   C₀ = source_of P T R b N S L
 
   abbrev st₀ : State
   st₀ = state_of u N S L
-
-  abbrev bs : List ℕ
-  bs = take count (drop sp X)
 
   abbrev S₁ : List ℕ
   S₁ = take (u.schemas * 16) S

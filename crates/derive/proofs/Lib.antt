@@ -1,3 +1,4 @@
 pub mod Build
 pub mod Rows
 pub mod Derive
+pub mod Alike

@@ -18,7 +18,7 @@ use Rattle.joins.specs.declared.Lists.{Lists}
 use Rattle.compilation.specs.State.{Source, State, Out, and_then, source_of, state_of, add_schema}
 use Rattle.compilation.specs.Table.{join_row_at}
 use Rattle.derive.specs.declared.Made.{Made}
-use Rattle.derive.specs.Meets.{Told, told, Ready, Ran, Built, Finished, Rows, Rowed, join_row, rows_of}
+use Rattle.derive.specs.Meets.{Told, told, Grows, Ready, Ran, Built, Finished, Rows, Rowed, join_row, rows_of}
 use Rattle.inherit.specs.declared.Scalars.{Scalars}
 use Rattle.merge.proofs.Lists.{part_same}
 use Rattle.derive.proofs.Build.{out-done, out-refused, source_same, number_some}
@@ -163,7 +163,7 @@ module _ (S S₁ : List ℕ) (u : Used) (note at : ℕ) (x : Lists) (offers name
 
 -- records appended after what ran
 module _ (P T R : List ℕ) (b u v : Used) (N S S' L : List ℕ) (o : Source → State → Out) (r : Told) (f : Rowed S S' v o r) where
-  rows-ran : (C : Source) (X X' : List ℕ) (sp : ℕ) → Ready b u X sp → Ran C (source_of P T R b N S L) u v X X' sp → Ran C (source_of P T R b N S' L) u r.used X X' sp
+  rows-ran : (C : Source) (X X' : List ℕ) (sp : ℕ) → Grows b u → Ran C (source_of P T R b N S L) u v X X' sp → Ran C (source_of P T R b N S' L) u r.used X X' sp
   rows-ran C X X' sp rd ran =
       record {
         source = source_same P T R b v N N S S' L L (omega (arith, rd.notes, ran.notes)) (omega (arith, rd.schemas, ran.schemas)) (omega (arith, rd.links, ran.links)) refl f.rows.kept refl refl f.rows.long refl ∙ ran.source;
@@ -175,7 +175,7 @@ module _ (P T R : List ℕ) (b u v : Used) (N S S' L : List ℕ) (o : Source →
         most = f.rows.most ran.most;
       }
 
-  pub rows-built : (out : Out) (C : Source) (X X' : List ℕ) (sp : ℕ) → Ready b u X sp → Ran C (source_of P T R b N S L) u v X X' sp → out ≡ o C (state_of v N S L) → Built out C (source_of P T R b N S' L) u N S' L X X' sp r
+  pub rows-built : (out : Out) (C : Source) (X X' : List ℕ) (sp : ℕ) → Grows b u → Ran C (source_of P T R b N S L) u v X X' sp → out ≡ o C (state_of v N S L) → Built out C (source_of P T R b N S' L) u N S' L X X' sp r
   rows-built out C X X' sp rd ran e =
       record {
         answer = f.rows.answer C N L (ap (λ (D : Source). D.schemas_lent) (sym ran.source)) ∙ sym e;
@@ -184,5 +184,8 @@ module _ (P T R : List ℕ) (b u v : Used) (N S S' L : List ℕ) (o : Source →
         rise = λ z. omega (arith, f.rise z, ran.schemas);
       }
 
+pub ready_grows : {b u : Used} {X : List ℕ} {sp : ℕ} → Ready b u X sp → Grows b u
+ready_grows rd = record { notes = rd.notes; schemas = rd.schemas; links = rd.links; most = rd.most }
+
 pub finish_built : (P T R : List ℕ) (b u v : Used) (N S S' L w : List ℕ) (r : Told) → Finished S S' v w r → (out : Out) (C : Source) (X X' : List ℕ) (sp : ℕ) → Ready b u X sp → Ran C (source_of P T R b N S L) u v X X' sp → out ≡ add_schema C (state_of v N S L) w → Built out C (source_of P T R b N S' L) u N S' L X X' sp r
-finish_built P T R b u v N S S' L w r f = rows-built P T R b u v N S S' L (λ C st. add_schema C st w) r (finished-rowed S S' v w r f)
+finish_built P T R b u v N S S' L w r f out C X X' sp rd = rows-built P T R b u v N S S' L (λ C st. add_schema C st w) r (finished-rowed S S' v w r f) out C X X' sp (ready_grows rd)

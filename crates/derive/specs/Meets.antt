@@ -46,6 +46,13 @@ SameLent w w' =
 unfoldable pub out_of : Told → List ℕ → List ℕ → List ℕ → Out
 out_of r N S L = pick (eqb r.no 0) (done (state_of r.used N S L) r.rec) (refused r.no)
 
+-- the counts by now are no less than at entry, and there are no more schemas than a table has
+pub record Grows (b u : Used) : Type 0 where
+  pub notes : b.notes ≤ u.notes
+  pub schemas : b.schemas ≤ u.schemas
+  pub links : b.links ≤ u.links
+  pub most : u.schemas ≤ most_schemas
+
 pub record Ready (b u : Used) (X : List ℕ) (sp : ℕ) : Type 0 where
   pub notes : b.notes ≤ u.notes
   pub schemas : b.schemas ≤ u.schemas

@@ -1,15 +1,12 @@
 // Merging: an object's bases, compiled, and its own record become one new object.
 #![tactic(auto)]
 
-pub mod run;
-
-ghost use Rattle.std.specs.Prelude.{◌≡◌, ◌≤◌, ◌*◌, take, drop, is_ok, IfErr};
+ghost use Rattle.std.specs.Prelude.{◌≡◌, ◌≤◌, ◌*◌, ℕ, take, is_ok, IfErr};
 ghost use Rattle.append.specs.Append.{Grown};
 ghost use Rattle.error.specs.declared.Failure.TheVariants.{NoRoom};
 ghost use Rattle.layout.specs.Layout.{schema_word, schema_words};
 ghost use Rattle.compilation.specs.Table.{merge_at};
-ghost use Rattle.merge.specs.Pairs.{span};
-ghost use Rattle.derive.specs.Meets.{join_row, rows_of, used_after, told, Ready, Builds, SameLent, Takes, Lays, Finished, Rows, Rowed, Joinable, Fits, RowsReady};
+ghost use Rattle.derive.specs.Meets.{join_row, rows_of, used_after, told, Grows, Builds, SameLent, Takes, Lays, Finished, Rows, Rowed, Joinable, Fits, RowsReady};
 
 use error::{Failure, Used};
 use inherit::{Scalars, merged_note, merged_scalars, own_offer};
@@ -17,8 +14,7 @@ use joins::{Lists, Offers};
 use layout::kind;
 use layout::rows::{list_row, object_row};
 use layout::words::{MOST_NOTES, MOST_SCHEMAS, NONE, NOTE_WORDS, SCHEMA_WORDS};
-use merge::{first_words, words_from};
-use run::Run;
+use merge::first_words;
 use text::Texts;
 
 // The most words that the two tables may use.
@@ -29,7 +25,7 @@ const SCHEMA_ROOM: usize = MOST_SCHEMAS * SCHEMA_WORDS;
 // What compiling only reads: the tables that stay, and the used counts at entry.
 #[derive(Clone, Copy)]
 pub struct Origin<'a> {
-    pub texts: Texts<'a>,
+    pub texts: Texts<'a, 'a>,
     pub registry: &'a [u32],
     pub base: Used,
 }
@@ -37,13 +33,13 @@ pub struct Origin<'a> {
 // What compiling writes beside the links, which are appended while these are read: two tables that grow, and a stack of the new
 // records' numbers. The links stay beside it: two fields of a struct behind `&mut` do not go into one call.
 #[derive(Drop)]
-pub struct Work<'a> {
+pub struct Work<'a, 's> {
     pub notes: &'a mut [u32],
     pub schemas: &'a mut [u32],
-    pub stack: &'a mut [u32],
+    pub stack: &'s mut [u32],
 }
 
-impl Work<'_> {
+impl Work<'_, '_> {
     // Word k of the schema s, of which there are us.
     pub fn field(&self, us: u32, s: u32, k: u32) -> u32
         ensures { result ≡ schema_word (take (us * schema_words) self.now.schemas.now) s k }
@@ -183,14 +179,12 @@ struct Taken {
     note: [u32; 9],
 }
 
-fn take_bases(origin: &Origin, work: &Work, s: u32, used: Used, run: Run) -> Taken
-    ensures { let bases = take run.count (drop run.from work.now.stack.now) in
-        Takes origin.now.base used work.now s bases result }
+fn take_bases(origin: &Origin, work: &Work, s: u32, used: Used, bases: &[u32]) -> Taken
+    ensures { Takes origin.now.base used work.now s bases.now result }
 {
     let base = origin.base;
     let notes = first_words(work.notes, (used.notes as usize) * NOTE_WORDS);
     let schemas = first_words(work.schemas, (used.schemas as usize) * SCHEMA_WORDS);
-    let bases = words_from(work.stack, run.from as usize, run.count as usize);
     let own_notes = first_words(work.notes, (base.notes as usize) * NOTE_WORDS);
     let own_schemas = first_words(work.schemas, (base.schemas as usize) * SCHEMA_WORDS);
     let scalars = merged_scalars(schemas, bases, own_schemas, s);
@@ -216,12 +210,11 @@ fn lay(
     links: &mut [u32],
     s: u32,
     used: Used,
-    run: Run,
+    bases: &[u32],
     taken: Taken,
 ) -> Option<Lists>
     requires { origin.now.base.links ≤ used.links }
-    ensures { let bases = take run.count (drop run.from work.now.stack.now) in
-        Lays origin.now used work.now links.old links.new s bases taken result }
+    ensures { Lays origin.now used work.now links.old links.new s bases.now taken result }
 {
     let base = origin.base;
     let bound = used.links as usize;
@@ -230,7 +223,7 @@ fn lay(
         first_words(work.notes, (used.notes as usize) * NOTE_WORDS),
         first_words(work.schemas, (used.schemas as usize) * SCHEMA_WORDS),
         links,
-        words_from(work.stack, run.from as usize, run.count as usize),
+        bases,
         bound,
         first_words(work.schemas, (base.schemas as usize) * SCHEMA_WORDS),
         base.links as usize,
@@ -242,27 +235,27 @@ fn lay(
     )
 }
 
-// The merge, after the bases are compiled and known to be objects. `used` stands beside the work, as in `take_bases` and `lay`:
-// `build` hands on counts of its own at each level.
+// The merge, after the bases, a list of any length, are compiled and known to be objects. `used` stands beside the work, as in `take_bases`
+// and `lay`: `build` hands on counts of its own at each level. The stack stays as it is, wherever its top is.
 pub fn merge_object_schemas(
     origin: &Origin,
     work: &mut Work,
     links: &mut [u32],
     s: u32,
     used: Used,
-    run: Run,
+    bases: &[u32],
 ) -> Result<Made, Failure>
-    requires { Ready origin.now.base used work.old.stack.now run.from }
-    ensures made { Builds origin.now work.old work.new links.old links.new used run.from
-        (λ C st. merge_at C st s (span work.old.stack.now run.from 1 run.count))
+    requires { Grows origin.now.base used }
+    ensures made { (top : ℕ) → Builds origin.now work.old work.new links.old links.new used top
+        (λ C st. merge_at C st s bases.now)
         result }
     ensures stack { work.new.stack.now ≡ work.old.stack.now }
     ensures lent { SameLent work.old work.new }
 {
-    let taken = take_bases(origin, work, s, used, run);
+    let taken = take_bases(origin, work, s, used, bases);
     let noted = (used.notes as usize) * NOTE_WORDS;
     add_words(work.notes, noted, NOTE_ROOM, &taken.note)?;
-    let Some(lists) = lay(origin, work, links, s, used, run, taken) else {
+    let Some(lists) = lay(origin, work, links, s, used, bases, taken) else {
         return Err(Failure::NoRoom);
     };
     let v = after(used, lists);

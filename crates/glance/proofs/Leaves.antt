@@ -16,7 +16,7 @@ use Rattle.text.proofs.Bytes.{same_complete}
 use Rattle.number.specs.declared.equal.Equality.{Equality}
 use Rattle.number.specs.Nearest.{nearest_of}
 use Rattle.number.specs.Check.{not_multiple_of}
-use Rattle.number.proofs.Passing.{absent_exclusive_minimum, absent_exclusive_maximum, absent_multiple, after_range}
+use Rattle.number.proofs.Passing.{absent_exclusive_minimum, absent_exclusive_maximum, absent-minimum, absent-maximum, absent_multiple, after_range}
 use Rattle.error.specs.declared.Mode.{Mode}
 use Rattle.layout.specs.Layout.{NONE, node_kind, node_a, schema_word, list_first, list_count, string_minimum, string_maximum, string_pattern, number_minimum, number_maximum, number_exclusive_minimum, number_exclusive_maximum, number_multiple}
 use Rattle.lookup.specs.Find.{Found}
@@ -39,6 +39,15 @@ not_true false h = refl
 real_none : (numbers : List ℕ) (place : ℕ) → place ≡ NONE → real_at numbers place ≡ nan
 unfolding real_at
 real_none numbers place h = rw (eq-eqb place NONE h)
+
+module _ (numbers : List ℕ) (place : ℕ) (v : Float) where
+  pub least_absent : place ≡ NONE → true ≡ at_least numbers place v
+  unfolding at_least
+  least_absent h = rw (real_none numbers place h, absent-minimum v)
+
+  pub most-absent : place ≡ NONE → true ≡ at_most numbers place v
+  unfolding at_most
+  most-absent h = rw (real_none numbers place h, absent-maximum v)
 
 -- ---- numbers
 module _ (numbers schemas : List ℕ) (s k : ℕ) {place : ℕ} (low : k < 14) (read : place ≡ schema_word schemas s (2 + k)) where

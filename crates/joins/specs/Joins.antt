@@ -82,12 +82,14 @@ pub record Below (bound own at : ℕ) : Type 0 where
   pub bases : bound ≤ at
   pub derived : own ≤ at
 
--- the words new stand at the front of what is lent; or it is too short for them
-pub record Filled (R R' new : List ℕ) (r : Option ℕ) : Type 0 where
+-- the words new stand at the front of what is lent, before which `at` links stand, within the limit of the links; or they would pass the limit,
+-- or it is too short for them
+pub record Filled (at : ℕ) (R R' new : List ℕ) (r : Option ℕ) : Type 0 where
   pub count : (n : ℕ) → r ≡ Some n → length new ≡ n
   pub fits : (n : ℕ) → r ≡ Some n → n ≤ length R
+  pub limit : (n : ℕ) → r ≡ Some n → at + n ≤ most_links
   pub front : (n : ℕ) → r ≡ Some n → take n R' ≡ new
-  pub full : r ≡ None → length R < length new
+  pub full : r ≡ None → at + length new ≤ most_links → length R < length new
   pub long : length R' ≡ length R
 
 -- the words new stand in the links after `at`, where there is room; earlier words as they were
@@ -113,8 +115,8 @@ pub record Counted (p q r a n : List ℕ) (x : Option Lists) : Type 0 where
   pub names : (y : Lists) → x ≡ Some y → length n ≡ y.names
 
 -- the lists of a merged object, one after the other, at the front of what is lent
-pub record Listed (R R' : List ℕ) (p q r a n : List ℕ) (x : Option Lists) : Type 0 where
-  pub filled : Filled R R' ((((p ++ q) ++ r) ++ a) ++ n) (total x)
+pub record Listed (at : ℕ) (R R' : List ℕ) (p q r a n : List ℕ) (x : Option Lists) : Type 0 where
+  pub filled : Filled at R R' ((((p ++ q) ++ r) ++ a) ++ n) (total x)
   pub counted : Counted p q r a n x
 
 -- the same in the links

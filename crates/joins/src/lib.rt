@@ -1,4 +1,5 @@
-// Lists that merging joins: required texts, additional schemas, names. Each is laid at the front of the room that is left in the links.
+// Lists that merging joins: required texts, additional schemas, names. Each is laid at the front of the room that is left in the links, before
+// which `at` of them stand; None where the room is too short or it would pass the links' limit.
 #![tactic(auto)]
 
 ghost use Rattle.std.specs.Prelude.{◌≡◌, ◌==◌, ℕ, Bool, ◌≤◌, ◌<◌, ◌^◌, true, false, []};
@@ -97,12 +98,16 @@ fn tallied(t: Offers, w: u32) -> Offers
     }
 }
 
-// Lays the count words that stand at first in the links: how many they are, unless the room is too short.
-pub fn lay_list(links: &[u32], first: u32, count: u32, room: &mut [u32]) -> Option<usize>
-    ensures { Filled room.old room.new (slice links.now first count) result }
+// Lays the count words that stand at first in the links: how many they are, unless the room is too short or they would pass the links' limit.
+pub fn lay_list(links: &[u32], first: u32, count: u32, at: usize, room: &mut [u32]) -> Option<usize>
+    ensures { Filled at room.old room.new (slice links.now first count) result }
 {
     let count = count as usize;
-    if room.len() < count {
+    if MOST_LINKS < at {
+        return None;
+    }
+    let most = room.len().min(MOST_LINKS - at);
+    if most < count {
         return None;
     }
     for k in 0..count {
@@ -111,44 +116,54 @@ pub fn lay_list(links: &[u32], first: u32, count: u32, room: &mut [u32]) -> Opti
     Some(count)
 }
 
-// An offer, unless it is NONE.
-pub fn lay_offer(w: u32, room: &mut [u32]) -> Option<usize>
-    ensures { Filled room.old room.new (keep_one w) result }
+// Lays an offer, unless it is NONE: how many words that is, unless the room is too short or it would pass the links' limit.
+pub fn lay_offer(w: u32, at: usize, room: &mut [u32]) -> Option<usize>
+    ensures { Filled at room.old room.new (keep_one w) result }
 {
+    if MOST_LINKS < at {
+        return None;
+    }
     if w == NONE {
         return Some(0);
     }
-    if room.is_empty() {
+    let left = room.len().min(MOST_LINKS - at);
+    if left == 0 {
         return None;
     }
     room[0] = w;
     Some(1)
 }
 
-// The required lists of the bases, one after the other. Its loop stands again in `lay_offers`: a shared one is no plainer, it would take a
-// closure that writes.
-pub fn lay_required(bases: Bases, room: &mut [u32]) -> Option<usize>
+// The required lists of the bases, one after the other, unless the room is too short or they would pass the links' limit. Its loop stands again in
+// `lay_offers`: a shared one is no plainer, it would take a closure that writes.
+pub fn lay_required(bases: Bases, at: usize, room: &mut [u32]) -> Option<usize>
     ensures { let required = required_of bases.entry.schemas.now bases.entry.links.now in
-        Filled room.old room.new (joined required bases.entry.objects.now) result }
+        Filled at room.old room.new (joined required bases.entry.objects.now) result }
 {
+    if MOST_LINKS < at {
+        return None;
+    }
     let mut end = 0;
     for base in bases.objects {
         let first = required_first(bases.schemas, *base);
         let count = required_count(bases.schemas, *base);
-        end += lay_list(bases.links, first, count, &mut room[end..])?;
+        end += lay_list(bases.links, first, count, at + end, &mut room[end..])?;
     }
     Some(end)
 }
 
-// What the bases offer to the join of names, or to that of additional.
-pub fn lay_offers(bases: Bases, names: bool, room: &mut [u32]) -> Option<usize>
+// What the bases offer to the join of names, or to that of additional, unless the room is too short or they would pass the links' limit.
+pub fn lay_offers(bases: Bases, names: bool, at: usize, room: &mut [u32]) -> Option<usize>
     ensures { let offered = offered_of bases.entry.notes.now bases.entry.schemas.now names in
-        Filled room.old room.new (joined offered bases.entry.objects.now) result }
+        Filled at room.old room.new (joined offered bases.entry.objects.now) result }
 {
+    if MOST_LINKS < at {
+        return None;
+    }
     let mut end = 0;
     for base in bases.objects {
         let w = offer(bases.notes, bases.schemas, names, *base);
-        end += lay_offer(w, &mut room[end..])?;
+        end += lay_offer(w, at + end, &mut room[end..])?;
     }
     Some(end)
 }
@@ -165,7 +180,8 @@ pub fn count_offers(notes: &[u32], schemas: &[u32], bases: &[u32], names: bool, 
     tallied(t, own)
 }
 
-// The merged pairs of the lists at word k, as links: those of the bases, then the derived object's own, which stand at first.
+// The merged pairs of the lists at word k, as links: those of the bases, then the derived object's own, which stand at first: how many words they
+// take, unless the room is too short or they would pass the links' limit.
 pub fn lay_pairs(
     texts: &Texts,
     bases: Bases,
@@ -173,6 +189,7 @@ pub fn lay_pairs(
     own_links: &[u32],
     first: u32,
     count: u32,
+    at: usize,
     room: &mut [u32],
 ) -> Option<usize>
     requires { k ≤ 14 }
@@ -180,7 +197,7 @@ pub fn lay_pairs(
         let list = record_pairs bases.entry.schemas.now bases.entry.links.now k in
         let merged = merge_all same list [] bases.entry.objects.now in
         let own = pairs_at own_links.now first count in
-        Filled room.old room.new (flat_pairs (put_all same merged own)) result }
+        Filled at room.old room.new (flat_pairs (put_all same merged own)) result }
 {
     let n = merge::merge_pairs(
         texts,
@@ -191,22 +208,34 @@ pub fn lay_pairs(
         own_links,
         first,
         count,
+        at,
         room,
     )?;
     Some(n * 2)
 }
 
-// The links of a join of n offers, the derived object's own last: none where fewer than two are offered.
-pub fn lay_join(bases: Bases, names: bool, own: u32, n: usize, room: &mut [u32]) -> Option<usize>
+// The links of a join of n offers, the derived object's own last, unless the room is too short or they would pass the links' limit. Fewer than
+// two offers are no join, and nothing is laid.
+pub fn lay_join(
+    bases: Bases,
+    names: bool,
+    own: u32,
+    n: usize,
+    at: usize,
+    room: &mut [u32],
+) -> Option<usize>
     ensures { let offered = offered_of bases.entry.notes.now bases.entry.schemas.now names in
         let words = join_words n (joined offered bases.entry.objects.now) own in
-        Filled room.old room.new words result }
+        Filled at room.old room.new words result }
 {
+    if MOST_LINKS < at {
+        return None;
+    }
     if n < 2 {
         return Some(0);
     }
-    let end = lay_offers(bases, names, room)?;
-    let last = lay_offer(own, &mut room[end..])?;
+    let end = lay_offers(bases, names, at, room)?;
+    let last = lay_offer(own, at + end, &mut room[end..])?;
     Some(end + last)
 }
 
@@ -225,30 +254,37 @@ pub fn any_closed(schemas: &[u32], bases: &[u32], own: bool) -> bool
 }
 
 // The merged pairs of the lists at word k: those of the bases, then those of the derived object, uncompiled.
-fn lay_merged(texts: &Texts, bases: Bases, own: Own, k: u32, room: &mut [u32]) -> Option<usize>
+fn lay_merged(
+    texts: &Texts,
+    bases: Bases,
+    own: Own,
+    k: u32,
+    at: usize,
+    room: &mut [u32],
+) -> Option<usize>
     requires { k ≤ 14 }
     ensures { let same = same_text texts.now.pool.now texts.now.records.now in
         let list = record_pairs bases.entry.schemas.now bases.entry.links.now k in
         let last = record_pairs own.entry.schemas.now own.entry.links.now k in
         let pairs = pairs_joined same list last bases.entry.objects.now own.entry.object in
-        Filled room.old room.new pairs result }
+        Filled at room.old room.new pairs result }
 {
     let first = schema_word(own.schemas, own.object, k);
     let count = schema_word(own.schemas, own.object, k + 1);
-    lay_pairs(texts, bases, k, own.links, first, count, room)
+    lay_pairs(texts, bases, k, own.links, first, count, at, room)
 }
 
 // The required lists of the bases, then that of the derived object.
-fn lay_all_required(bases: Bases, own: Own, room: &mut [u32]) -> Option<usize>
+fn lay_all_required(bases: Bases, own: Own, at: usize, room: &mut [u32]) -> Option<usize>
     ensures { let required = required_of bases.entry.schemas.now bases.entry.links.now in
         let last = required_of own.entry.schemas.now own.entry.links.now in
         let words = required_joined required last bases.entry.objects.now own.entry.object in
-        Filled room.old room.new words result }
+        Filled at room.old room.new words result }
 {
     let first = required_first(own.schemas, own.object);
     let count = required_count(own.schemas, own.object);
-    let end = lay_required(bases, room)?;
-    let last = lay_list(own.links, first, count, &mut room[end..])?;
+    let end = lay_required(bases, at, room)?;
+    let last = lay_list(own.links, first, count, at + end, &mut room[end..])?;
     Some(end + last)
 }
 
@@ -260,6 +296,7 @@ fn lay_lists(
     own_additional: u32,
     offers: usize,
     named: usize,
+    at: usize,
     room: &mut [u32],
 ) -> Option<Lists>
     ensures { let same = same_text texts.now.pool.now texts.now.records.now in
@@ -269,7 +306,7 @@ fn lay_lists(
         let own_required = required_of own.entry.schemas.now own.entry.links.now in
         let each = λ (names : Bool). offered_of bases.entry.notes.now bases.entry.schemas.now names in
         let offered = λ (names : Bool). joined (each names) bases.entry.objects.now in
-        Listed room.old room.new
+        Listed at room.old room.new
         (pairs_joined same (pairs 2) (own_pairs 2) bases.entry.objects.now own.entry.object)
         (pairs_joined same (pairs 4) (own_pairs 4) bases.entry.objects.now own.entry.object)
         (required_joined required own_required bases.entry.objects.now own.entry.object)
@@ -277,15 +314,19 @@ fn lay_lists(
         (join_words named (offered true) NONE)
         result }
 {
-    let properties = lay_merged(texts, bases, own, PROPERTIES, room)?;
+    let properties = lay_merged(texts, bases, own, PROPERTIES, at, room)?;
+    let at = at + properties;
     let room = &mut room[properties..];
-    let patterns = lay_merged(texts, bases, own, PATTERN_PROPERTIES, room)?;
+    let patterns = lay_merged(texts, bases, own, PATTERN_PROPERTIES, at, room)?;
+    let at = at + patterns;
     let room = &mut room[patterns..];
-    let required = lay_all_required(bases, own, room)?;
+    let required = lay_all_required(bases, own, at, room)?;
+    let at = at + required;
     let room = &mut room[required..];
-    let additional = lay_join(bases, false, own_additional, offers, room)?;
+    let additional = lay_join(bases, false, own_additional, offers, at, room)?;
+    let at = at + additional;
     let room = &mut room[additional..];
-    let names = lay_join(bases, true, NONE, named, room)?;
+    let names = lay_join(bases, true, NONE, named, at, room)?;
     Some(Lists {
         properties,
         patterns,
@@ -322,12 +363,11 @@ pub fn lay_all<'a>(
         (join_words named (offered true) NONE)
         result }
 {
-    if MOST_LINKS < at || links.len() < at {
+    if links.len() < at {
         return None;
     }
     let (read, room) = links.split_at_mut(at);
     let read = &*read;
-    let most = room.len().min(MOST_LINKS - at);
     let all = Bases {
         notes,
         schemas,
@@ -339,13 +379,5 @@ pub fn lay_all<'a>(
         links: &read[..own],
         object: s,
     };
-    lay_lists(
-        texts,
-        all,
-        derived,
-        additional,
-        offers,
-        named,
-        &mut room[..most],
-    )
+    lay_lists(texts, all, derived, additional, offers, named, at, room)
 }

@@ -10,6 +10,7 @@ use Rattle.layout.specs.Layout.{node_a, string_minimum, string_maximum, string_p
 use Rattle.lookup.specs.Find.{Found}
 use Rattle.schema.specs.Look.{own_words}
 use Rattle.schema.proofs.Slices.{own_word}
+use Rattle.error.specs.declared.Reason.{Reason}
 use Rattle.judge.specs.declared.Wrong.{Wrong}
 use Rattle.error.specs.declared.Reason.TheVariants as reason
 use Rattle.judge.specs.Judge.{fine, first_wrong, length_in, kind_verdict, count_verdict, pattern_verdict, string_verdict}
@@ -21,6 +22,6 @@ module _ (m : Mode) (answer : ℕ → ℕ → Found) (pool texts nodes schemas :
   string_fits h =
       kind_fits nodes 4 3 n _ h ∙ rw (own_word schemas s 2 14 0 (omega arith), own_word schemas s 2 14 1 (omega arith), own_word schemas s 2 14 2 (omega arith))
 
-  pub string_misfits : {e : Wrong} → kind_verdict nodes 4 3 n ≡ Err e → string_verdict m answer pool texts nodes (own_words schemas s 2 14) n ≡ Err e
+  pub string_misfits : {e : Wrong Reason} → kind_verdict nodes 4 3 n ≡ Err e → string_verdict m answer pool texts nodes (own_words schemas s 2 14) n ≡ Err e
   unfolding string_verdict
   string_misfits h = kind_misfits nodes 4 3 n _ h

@@ -31,7 +31,7 @@ use Rattle.judge.specs.declared.Wrong.TheVariants.{Value, BadPattern, Unanswered
 
 -- what is said of a value: fine, or what is wrong
 abbrev pub Verdict : Type 0
-Verdict = Result (Unit {0}) Wrong
+Verdict = Result (Unit {0}) (Wrong Reason)
 
 abbrev pub fine : Verdict
 fine = Ok tt
@@ -59,11 +59,11 @@ is_short count least = both (not (eqb least NONE)) (ltb count least)
 unfoldable pub is_long : ℕ → ℕ → Bool
 is_long count most = both (not (eqb most NONE)) (ltb most count)
 
--- answers 7, 9 and 11
-unfoldable pub count_verdict : Reason → ℕ → ℕ → ℕ → ℕ → Verdict
+-- answers 7, 9 and 11, by a `Reason` or any number that names them
+unfoldable pub count_verdict : {R : Type 0} → R → ℕ → ℕ → ℕ → ℕ → Result (Unit {0}) (Wrong R)
 count_verdict why n least most count =
     pick (is_short count least) (Err (Value why n (detail.Count count least)))
-    (pick (is_long count most) (Err (Value why n (detail.Count count most))) fine)
+    (pick (is_long count most) (Err (Value why n (detail.Count count most))) (Ok tt))
 
 -- nothing is wrong
 abbrev pub is_fine : Verdict → Bool

@@ -20,12 +20,12 @@ use error::{Detail, Reason};
 use layout::words::NONE;
 use layout::{Tables, kind, node};
 
-// What is wrong with a value, or why that cannot be said.
+// What is wrong with a value, or why that cannot be said. What a judgement names is a `Reason`; a count's test alone is open to any other.
 #[derive(Clone, Copy)]
-pub enum Wrong {
+pub enum Wrong<R = Reason> {
     // What is wrong, the node that it names, the detail.
     Value {
-        reason: Reason,
+        reason: R,
         node: u32,
         detail: Detail,
     },
@@ -49,9 +49,15 @@ fn is_long(count: u32, most: u32) -> bool
     most != NONE && most < count
 }
 
-// A count against a minimum, then a maximum.
+// A count against a minimum, then a maximum, for whatever names the answer: a `Reason` here, or any number.
 #[tactic(auto, unfolding(crate::specs::Judge::count_verdict))]
-pub fn check_count(reason: Reason, n: u32, least: u32, most: u32, count: u32) -> Result<(), Wrong>
+pub fn check_count<R: Copy>(
+    reason: R,
+    n: u32,
+    least: u32,
+    most: u32,
+    count: u32,
+) -> Result<(), Wrong<R>>
     ensures { result ≡ count_verdict reason n least most count }
 {
     let limit = if is_short(count, least) {

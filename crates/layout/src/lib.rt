@@ -18,7 +18,7 @@ use text::Texts;
 // What a call is lent: the texts with their pool, and seven further tables.
 #[derive(Clone, Copy)]
 pub struct Tables<'a> {
-    pub texts: Texts<'a>,
+    pub texts: Texts<'a, 'a>,
     pub nodes: &'a [u32],
     pub notes: &'a [u32],
     pub schemas: &'a [u32],

@@ -13,6 +13,7 @@ use Rattle.text.specs.Choice.{either}
 use Rattle.layout.specs.Layout.{node_b, array_minimum, array_maximum, array_unique}
 use Rattle.schema.specs.Look.{slice, own_words}
 use Rattle.schema.proofs.Slices.{slice_more, slice-end, own_word}
+use Rattle.error.specs.declared.Reason.{Reason}
 use Rattle.judge.specs.declared.Wrong.{Wrong}
 use Rattle.error.specs.declared.Reason.TheVariants as reason
 use Rattle.judge.specs.Judge.{fine, first_wrong, kind_verdict, count_verdict, is_listed, any_repeated, unique_verdict, array_verdict}
@@ -51,6 +52,6 @@ module _ (m : Mode) (pool texts nodes schemas links numbers : List ℕ) (n s : �
   array_fits h =
       kind_fits nodes 5 9 n _ h ∙ rw (own_word schemas s 3 3 0 (omega arith), own_word schemas s 3 3 1 (omega arith), own_word schemas s 3 3 2 (omega arith))
 
-  pub array_misfits : {e : Wrong} → kind_verdict nodes 5 9 n ≡ Err e → array_verdict m pool texts nodes links numbers (own_words schemas s 3 3) n ≡ Err e
+  pub array_misfits : {e : Wrong Reason} → kind_verdict nodes 5 9 n ≡ Err e → array_verdict m pool texts nodes links numbers (own_words schemas s 3 3) n ≡ Err e
   unfolding array_verdict
   array_misfits h = kind_misfits nodes 5 9 n _ h

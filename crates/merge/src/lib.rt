@@ -10,7 +10,7 @@ ghost use Rattle.merge.specs.Meets.{Placed};
 
 use layout::links::{pair_key, pair_value};
 use layout::schema::schema_word;
-use layout::words::SCHEMA_WORDS;
+use layout::words::{MOST_LINKS, SCHEMA_WORDS};
 use text::Texts;
 
 // The first n words, or all where there are fewer.
@@ -41,23 +41,34 @@ pub fn field(schemas: &[u32], us: u32, s: u32, k: u32) -> u32
     schema_word(first_words(schemas, (us as usize) * SCHEMA_WORDS), s, k)
 }
 
-// Puts a pair among the n pairs at the front of the room: how many stand there now, unless the room is too short. The room is not cut to its n
-// pairs: the rest of it is written next.
-pub fn put_pair(texts: &Texts, room: &mut [u32], n: usize, key: u32, value: u32) -> Option<usize>
+// Puts a pair among the n pairs at the front of the room, before which `at` links stand: how many pairs stand there now, unless the room is too
+// short or they would pass the links' limit. The room is not cut to its n pairs: the rest of it is written next.
+pub fn put_pair(
+    texts: &Texts,
+    at: usize,
+    room: &mut [u32],
+    n: usize,
+    key: u32,
+    value: u32,
+) -> Option<usize>
     requires { n * 2 ≤ length room.old }
     ensures { let same = same_text texts.now.pool.now texts.now.records.now in
-        Placed room.old room.new (put same (pair key value) (pairs_at room.old 0 n)) result }
+        Placed at room.old room.new (put same (pair key value) (pairs_at room.old 0 n)) result }
 {
+    if MOST_LINKS < at || MOST_LINKS - at < n * 2 {
+        return None;
+    }
     for k in 0..n {
-        let at = k * 2;
-        if texts.same(room[at], key) {
-            room[at] = key;
-            room[at + 1] = value;
+        let i = k * 2;
+        if texts.same(room[i], key) {
+            room[i] = key;
+            room[i + 1] = value;
             return Some(n);
         }
     }
     let end = n * 2;
-    if room.len() < end + 2 {
+    let most = room.len().min(MOST_LINKS - at);
+    if most < end + 2 {
         return None;
     }
     room[end] = key;
@@ -65,53 +76,63 @@ pub fn put_pair(texts: &Texts, room: &mut [u32], n: usize, key: u32, value: u32)
     Some(n + 1)
 }
 
-// Puts the count pairs that stand at first in the links among the n pairs at the front of the room.
+// Puts the count pairs that stand at first in the links among the n pairs at the front of the room, unless the room is too short or the links'
+// limit would be passed.
 pub fn put_pairs(
     texts: &Texts,
     links: &[u32],
     first: u32,
     count: u32,
+    at: usize,
     room: &mut [u32],
     n: usize,
 ) -> Option<usize>
     requires { n * 2 ≤ length room.old }
     ensures { let same = same_text texts.now.pool.now texts.now.records.now in
         let new = pairs_at links.now first count in
-        Placed room.old room.new (put_all same (pairs_at room.old 0 n) new) result }
+        Placed at room.old room.new (put_all same (pairs_at room.old 0 n) new) result }
 {
+    if MOST_LINKS < at || MOST_LINKS - at < n * 2 {
+        return None;
+    }
     let mut n = n;
     for k in 0..count {
         let key = pair_key(links, first, k);
         let value = pair_value(links, first, k);
-        n = put_pair(texts, room, n, key, value)?;
+        n = put_pair(texts, at, room, n, key, value)?;
     }
     Some(n)
 }
 
-// Merges the lists at word k of these records.
+// Merges the lists at word k of these records at the front of the room: how many pairs they are, unless the room is too short or the links' limit
+// would be passed.
 pub fn merge_all(
     texts: &Texts,
     schemas: &[u32],
     links: &[u32],
     bases: &[u32],
     k: u32,
+    at: usize,
     room: &mut [u32],
 ) -> Option<usize>
     requires { k ≤ 14 }
     ensures { let same = same_text texts.now.pool.now texts.now.records.now in
         let list = record_pairs schemas.now links.now k in
-        Placed room.old room.new (merge_all same list [] bases.now) result }
+        Placed at room.old room.new (merge_all same list [] bases.now) result }
 {
+    if MOST_LINKS < at {
+        return None;
+    }
     let mut n = 0;
     for base in bases {
         let first = schema_word(schemas, *base, k);
         let count = schema_word(schemas, *base, k + 1);
-        n = put_pairs(texts, links, first, count, room, n)?;
+        n = put_pairs(texts, links, first, count, at, room, n)?;
     }
     Some(n)
 }
 
-// The same, and then the derived record's own list, which stands at first in the links used before.
+// The same, and then the derived record's own list, which stands at first in the links used before: None likewise.
 pub fn merge_pairs(
     texts: &Texts,
     schemas: &[u32],
@@ -121,14 +142,15 @@ pub fn merge_pairs(
     own_links: &[u32],
     first: u32,
     count: u32,
+    at: usize,
     room: &mut [u32],
 ) -> Option<usize>
     requires { k ≤ 14 }
     ensures { let same = same_text texts.now.pool.now texts.now.records.now in
         let merged = merge_all same (record_pairs schemas.now links.now k) [] bases.now in
         let own = pairs_at own_links.now first count in
-        Placed room.old room.new (put_all same merged own) result }
+        Placed at room.old room.new (put_all same merged own) result }
 {
-    let n = merge_all(texts, schemas, links, bases, k, room)?;
-    put_pairs(texts, own_links, first, count, room, n)
+    let n = merge_all(texts, schemas, links, bases, k, at, room)?;
+    put_pairs(texts, own_links, first, count, at, room, n)
 }

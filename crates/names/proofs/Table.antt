@@ -81,6 +81,10 @@ pub read_back : (name : List ℕ) → take (named name).len (named name).bytes �
 unfolding named padded
 read_back name = take_at name (replicate (8 - length name) 0) (length name) refl
 
+-- a number from n on that is not n is past it
+pub past : {n kind : ℕ} → n ≤ kind → (kind ≡ n → ⊥) → suc n ≤ kind
+past h no-n = omega arith
+
 -- what a row read by kind is: a node's name, a bad value's, a schema's, and nothing
 pub node-named : {r : Name} {kind k : ℕ} → k < 8 → kind ≡ k → r ≡ named (table_name k) → r ≡ named (yaml_type_name kind)
 node-named {k = k} h e p = cc (node_row k h)

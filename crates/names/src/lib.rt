@@ -72,8 +72,8 @@ pub fn yaml_type_name(kind: u32) -> Name
 {
     // Kinds by number here and below: a kind is the place of its row in the table.
     match kind {
-        0..=7 => row(kind as usize),
-        8 => row(0),
+        0 | 8 => row(0),
+        1..=7 => row(kind as usize),
         _ => row(UNKNOWN),
     }
 }

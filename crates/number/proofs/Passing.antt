@@ -1,10 +1,24 @@
 -- What passes the tests of a number schema: a NaN value, and whatever meets an absent bound, which is a NaN. Assumes nothing.
-use Rattle.std.proofs.Common.{◌≡◌, Bool, true, false, sym, refl, Ok, Err}
-use lib.Ieee.{Float, nan, inf, fin, lt, eq, le, rem}
-use Rattle.number.specs.Check.{abs, not_multiple_of, refused, check_number_of}
+use Rattle.std.proofs.Common.{◌≡◌, Bool, true, false, ◌||◌, sym, refl, ap, ◌∙◌, Ok, Err}
+use lib.Ieee.{Float, nan, inf, fin, neg, lt, eq, le, ne, rem}
+use lib.Ieee.Compare.{differs_from_itself}
+use Rattle.number.specs.Check.{abs, step, not_multiple_of, refused, check_number_of}
 use Rattle.number.specs.declared.tests.Bounds.{Bounds}
 use Rattle.number.specs.declared.tests.NumberFault.TheVariants.{OutOfRange, NotMultiple}
 use Rattle.number.specs.declared.tests.Range.TheVariants.{BelowMinimum, AboveMaximum, AtOrBelowExclusiveMinimum, AtOrAboveExclusiveMaximum}
+
+-- abs x > 2 ^ -52, as two comparisons with x itself
+pub sides : (x : Float) → (lt step x || lt x (neg step)) ≡ lt step (abs x)
+unfolding lt abs neg
+sides nan = refl
+sides (inf true) = refl
+sides (inf false) = refl
+sides (fin true m e) = refl
+sides (fin false m e) = or_false _
+  where
+    or_false : (b : Bool) → (b || false) ≡ b
+    or_false true = refl
+    or_false false = refl
 
 -- an absent bound refuses nothing
 pub absent-minimum : (v : Float) → lt v nan ≡ false
@@ -32,6 +46,10 @@ unfolding not_multiple_of rem abs lt
 absent_multiple nan = refl
 absent_multiple (inf s) = refl
 absent_multiple (fin s m e) = refl
+
+-- what differs from itself is an absent multiple
+pub absent_tested : (v m : Float) → ne m m ≡ true → false ≡ not_multiple_of v m
+absent_tested v m h = sym (ap (not_multiple_of v) (differs_from_itself m (rw h tt)) ∙ absent_multiple v)
 
 -- ---- the answer, by the first test that refuses
 module _ (v : Float) (b : Bounds) where

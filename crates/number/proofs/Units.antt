@@ -1,8 +1,9 @@
 -- A fitting float in units of the smallest value, 2 ^ -1074: a significand below 2 ^ 53, and a power of two. Assumes nothing.
-use Rattle.std.proofs.Common.{◌≡◌, ℕ, zero, suc, ◌+◌, ◌-◌, ◌*◌, ◌%◌, ◌^◌, ◌<◌, ◌≤◌, Bool, true, false, not, ◌&&◌, T, eqb, ltb, leb, ◌⊎◌, ℤ, pos, negsuc, sym, ap, ◌∙◌, subst, inl, inr, ⊎_elim, le_trans, le_of_eq, lt_of_lt_of_le, lt_irrefl, mul-le-mul_right, zero-lt-suc, mul_assoc, mul-pos, one-mul, zero-mul, mul-one, mul_right_comm, arith, lit≤, eqb→eq, ltb→lt, leb→le, nltb→le, pow_pos, pow-add}
+use Rattle.std.proofs.Common.{◌≡◌, ℕ, zero, suc, ◌+◌, ◌-◌, ◌*◌, ◌%◌, ◌^◌, ◌<◌, ◌≤◌, Bool, true, false, not, ◌&&◌, T, eqb, ltb, leb, ◌⊎◌, ℤ, pos, negsuc, sym, refl, ap, ◌∙◌, subst, inl, inr, ⊎_elim, le_trans, le_of_eq, lt_of_lt_of_le, lt_irrefl, mul-le-mul_right, zero-lt-suc, mul_assoc, mul-pos, one-mul, zero-mul, mul-one, mul_right_comm, arith, lit≤, eqb→eq, ltb→lt, leb→le, nltb→le, pow_pos, pow-add}
 use native.Mathlib.Nat.{eq_of_mul-eq-mul_right}
 use lib.Pow.{pow-lt}
 use lib.Ieee.{fin, binary64, low, up, down, fits}
+use lib.Ieee.Exact.{HasValue}
 use lib.Ieee.Fits.{up_pos, down_pos, and_l, and_r}
 
 pub lt_or_ge : (a b : ℕ) → (a < b) ⊎ (b ≤ a)
@@ -62,3 +63,7 @@ in_units s m (negsuc k) t =
 -- a fitting float of so many units is its significand times a power of two
 pub units_are : (s : Bool) (m : ℕ) (e : ℤ) (Y : ℕ) → T (fits binary64 (fin s m e)) → m * up e * 2 ^ 1074 ≡ Y * down e → (j : ℕ) × (Y ≡ m * 2 ^ j)
 units_are s m e Y t h = let u = in_units s m e t in (u.0, eq_of_mul-eq-mul_right (down e) (down_pos e) Y (m * 2 ^ u.0) (sym h ∙ u.1))
+
+-- each finite value of the format is a whole number of units
+pub has_units : (s : Bool) (m : ℕ) (e : ℤ) → T (fits binary64 (fin s m e)) → (a : ℕ) × HasValue (fin s m e) s a (2 ^ 1074)
+has_units s m e t = let u = in_units s m e t in (m * 2 ^ u.0, (refl, u.1))

@@ -9,8 +9,8 @@ use Rattle.layout.specs.Layout.{schema_word}
 use Rattle.layout.specs.Rows.{object_row}
 use Rattle.compilation.specs.State.{Source, Out, done, source_of, state_of, add_links}
 use Rattle.compilation.specs.Table.{field, span, weld}
-use Rattle.derive.specs.Meets.{Told, Ready, Ran, Built, Finished}
-use Rattle.put.specs.Meets.{Listed, laid_at, values_at}
+use Rattle.derive.specs.Meets.{Told, Ready, Ran, Finished}
+use Rattle.put.specs.Meets.{Laid, Listed, laid_at, values_at}
 use Rattle.put.specs.Chase.{chase_in, chase_at, is_fresh, num, next, weave_at, entry_words}
 use Rattle.error.specs.declared.Used.{Used}
 use Rattle.std.specs.Prelude.{Result}
@@ -20,10 +20,6 @@ use Rattle.append.proofs.Laws.{room_limit}
 use Rattle.merge.proofs.Lists.{part_same}
 use Rattle.derive.proofs.Build.{source_same, links-done, links_full, refused-built}
 use Rattle.derive.proofs.Rows.{finish_built}
-
--- those appended with their record, whatever the notes hold
-pub record Laid (P T R : List ℕ) (b u : Used) (below s : ℕ) (S S' L L' X : List ℕ) (sp mid additional names : ℕ) (r : Told) : Type 0 where
-  pub built : (N : List ℕ) → Built (laid_at (source_of P T R b N S L) (state_of u N S L) s (values_at (source_of P T R b N S L) below s 2 3 X sp) (values_at (source_of P T R b N S L) below s 4 5 X mid) additional names) (source_of P T R b N S L) (source_of P T R b N S' L') u N S' L' X X sp r
 
 pub listed_small : (L L' : List ℕ) (ul count : ℕ) (new : List ℕ) (r : Bool) → Listed L L' ul count new r → r ≡ true → ul + count ≤ 16384
 listed_small L L' ul count new r h e = room_limit 16384 (length L) ul count (sym h.yes ∙ e)

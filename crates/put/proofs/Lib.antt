@@ -2,3 +2,4 @@ pub mod Steps
 pub mod Weave
 pub mod Entries
 pub mod Laid
+pub mod Alike

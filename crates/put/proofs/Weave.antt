@@ -79,6 +79,16 @@ module _ (f : ℕ → Result Lead Failure) where
 pub room_none : (lent used n : ℕ) → min 16384 lent < used + n → room 16384 lent used n ≡ false
 room_none lent used n h = ⊎_elim (λ a. room_full 16384 lent used n (omega arith)) (λ a. room_short 16384 lent used n (omega arith)) (le_or_lt 16384 lent)
 
+module _ (L : List ℕ) (ul count : ℕ) (new : List ℕ) where
+  pub listed_no : room 16384 (length L) ul count ≡ false → Listed L L ul count new false
+  listed_no e =
+      record {
+        yes = sym e;
+        grown = λ z. absurd (let z : ◌≡◌ {A = ℕ} 0 1 = cc in omega arith);
+        kept = refl;
+        long = refl;
+      }
+
 -- put_list after i turns
 pub record Putting (f : ℕ → Result Lead Failure) (lb : ℕ) (X L₀ L : List ℕ) (ul at count sp i p : ℕ) : Type 0 where
   pub turn : i ≤ count

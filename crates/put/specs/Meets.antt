@@ -3,9 +3,9 @@ use Rattle.std.specs.Prelude.{ℕ, ◌+◌, ◌≤◌, ◌≡◌, Bool, true, Li
 use Rattle.append.specs.Append.{room}
 use Rattle.layout.specs.Layout.{most_schemas, most_links, schema_note, properties_first, properties_count, pattern_properties_first, pattern_properties_count, required_first, required_count, object_minimum, object_maximum, object_closed, naming_convention}
 use Rattle.layout.specs.Rows.{object_row}
-use Rattle.compilation.specs.State.{Source, State, Out, and_then, add_schema, add_links}
+use Rattle.compilation.specs.State.{Source, State, Out, and_then, source_of, state_of, add_schema, add_links}
 use Rattle.compilation.specs.Table.{field, span, weld}
-use Rattle.derive.specs.Meets.{Ready}
+use Rattle.derive.specs.Meets.{Told, Ready, Built}
 use Rattle.put.specs.Chase.{chase_at, weave_at}
 use Rattle.error.specs.declared.Used.{Used}
 
@@ -26,6 +26,10 @@ laid_at C st s ps qs additional names =
 -- the numbers of the values of a list of pairs
 abbrev pub values_at : Source → ℕ → ℕ → ℕ → ℕ → List ℕ → ℕ → List ℕ
 values_at C below s k n X sp = weave_at (chase_at C below) (span C.links (field C s k + 1) 2 (field C s n)) X sp
+
+-- the links of both lists and the record appended, whatever the notes hold
+pub record Laid (P T R : List ℕ) (b u : Used) (below s : ℕ) (S S' L L' X : List ℕ) (sp mid additional names : ℕ) (r : Told) : Type 0 where
+  pub built : (N : List ℕ) → Built (laid_at (source_of P T R b N S L) (state_of u N S L) s (values_at (source_of P T R b N S L) below s 2 3 X sp) (values_at (source_of P T R b N S L) below s 4 5 X mid) additional names) (source_of P T R b N S L) (source_of P T R b N S' L') u N S' L' X X sp r
 
 pub record LayReady (b u : Used) (X : List ℕ) (sp mid : ℕ) : Type 0 where
   pub ready : Ready b u X sp

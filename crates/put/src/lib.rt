@@ -7,11 +7,11 @@ ghost use Rattle.append.specs.Append.{room};
 ghost use Rattle.layout.specs.Layout.{NONE, schema_word, schema_words, most_links};
 ghost use Rattle.error.specs.declared.Failure.TheVariants.{NoRoom};
 ghost use Rattle.merge.specs.Pairs.{span};
-ghost use Rattle.derive.specs.Meets.{Builds, SameLent};
+ghost use Rattle.derive.specs.Meets.{told};
 ghost use Rattle.put.specs.Chase.{chase_in, lead_in, is_fresh, num, next, weave_at, entry_words};
-ghost use Rattle.put.specs.Meets.{Listed, LayReady, laid_at, values_at};
+ghost use Rattle.put.specs.Meets.{Laid, Listed, LayReady};
 
-use derive::{Made, Origin, Work, finish};
+use derive::{Made, Origin, finish};
 use error::{Failure, Used};
 use layout::kind;
 use layout::rows::object_row;
@@ -163,7 +163,8 @@ pub fn put_list(
 // the two is no plainer.
 fn put_entries(
     origin: &Origin,
-    work: &Work,
+    schemas: &[u32],
+    stack: &[u32],
     links: &mut [u32],
     below: u32,
     at: u32,
@@ -172,10 +173,10 @@ fn put_entries(
     sp: u32,
 ) -> Result<(), Failure>
     requires { (origin.now.base.links ≤ ul) × (sp ≤ 4096) }
-    ensures listed { let lead = lead_in origin.now work.now.schemas.now below in
+    ensures listed { let lead = lead_in origin.now schemas.now below in
         let read = take origin.now.base.links links.old in
         Listed links.old links.new ul (count * 2)
-        (entry_words lead read at count work.now.stack.now sp)
+        (entry_words lead read at count stack.now sp)
         (is_ok result) }
     ensures full { IfErr result (λ failure. failure ≡ NoRoom) }
 {
@@ -188,7 +189,7 @@ fn put_entries(
         let from = (at as usize) + i * 2;
         let key = word(links, lb, from);
         let s = word(links, lb, from + 1);
-        let (x, top) = child(origin, work.schemas, work.stack, below, s, p);
+        let (x, top) = child(origin, schemas, stack, below, s, p);
         let to = u + i * 2;
         links[to] = key;
         links[to + 1] = x;
@@ -197,11 +198,12 @@ fn put_entries(
     Ok(())
 }
 
-// Appends the links of a plain object's two lists and its record. `used` and `sp` stand beside the work: `build` hands on counts of its own
-// at each level, so a value of both would be taken apart at each call.
+// Appends the links of a plain object's two lists and its record: the notes are not asked for, and the stack is only read. `used` and `sp`
+// stand beside them: `build` hands on counts of its own at each level, so a value of both would be taken apart at each call.
 pub fn put_object(
     origin: &Origin,
-    work: &mut Work,
+    schemas: &mut [u32],
+    stack: &[u32],
     links: &mut [u32],
     below: u32,
     s: u32,
@@ -211,34 +213,30 @@ pub fn put_object(
     additional: u32,
     names: u32,
 ) -> Result<Made, Failure>
-    requires { LayReady origin.now.base used work.old.stack.now sp mid }
-    ensures made { let stack = work.old.stack.now in
-        Builds origin.now work.old work.new links.old links.new used sp
-        (λ C st. laid_at C st s
-        (values_at C below s 2 3 stack sp)
-        (values_at C below s 4 5 stack mid)
-        additional names)
-        result }
-    ensures notes { work.new.notes.now ≡ work.old.notes.now }
-    ensures stack { work.new.stack.now ≡ work.old.stack.now }
-    ensures lent { SameLent work.old work.new }
+    requires { LayReady origin.now.base used stack.now sp mid }
+    ensures { let C = origin.now in
+        Laid C.texts.pool.now C.texts.records.now C.registry.now C.base used below s
+        schemas.old schemas.new links.old links.new stack.now sp mid additional names
+        (told used result) }
 {
     let us = origin.base.schemas;
-    let note = work.field(us, s, NOTE);
-    let first = work.field(us, s, PROPERTIES);
-    let count = work.field(us, s, PROPERTY_COUNT);
-    let on = work.field(us, s, PATTERN_PROPERTIES);
-    let patterns = work.field(us, s, PATTERN_COUNT);
-    let required = work.field(us, s, REQUIRED);
-    let wanted = work.field(us, s, REQUIRED_COUNT);
-    let least = work.field(us, s, OBJECT_MINIMUM);
-    let most = work.field(us, s, OBJECT_MAXIMUM);
-    let closed = work.field(us, s, CLOSED);
-    let naming = work.field(us, s, NAMING);
+    let note = field(schemas, us, s, NOTE);
+    let first = field(schemas, us, s, PROPERTIES);
+    let count = field(schemas, us, s, PROPERTY_COUNT);
+    let on = field(schemas, us, s, PATTERN_PROPERTIES);
+    let patterns = field(schemas, us, s, PATTERN_COUNT);
+    let required = field(schemas, us, s, REQUIRED);
+    let wanted = field(schemas, us, s, REQUIRED_COUNT);
+    let least = field(schemas, us, s, OBJECT_MINIMUM);
+    let most = field(schemas, us, s, OBJECT_MAXIMUM);
+    let closed = field(schemas, us, s, CLOSED);
+    let naming = field(schemas, us, s, NAMING);
     let ul = used.links;
-    put_entries(origin, work, links, below, first, count, ul, sp)?;
+    put_entries(origin, schemas, stack, links, below, first, count, ul, sp)?;
     let after = ul + count * 2;
-    put_entries(origin, work, links, below, on, patterns, after, mid)?;
+    put_entries(
+        origin, schemas, stack, links, below, on, patterns, after, mid,
+    )?;
     let v = Used {
         links: after + patterns * 2,
         ..used
@@ -247,5 +245,5 @@ pub fn put_object(
         note, ul, count, after, patterns, additional, required, wanted, least, most, closed, names,
         naming,
     );
-    finish(work.schemas, v, rec)
+    finish(schemas, v, rec)
 }

@@ -1,5 +1,5 @@
--- What the check establishes, for the layers above: `well_formed`, then every fact of a node, a schema and a registry entry by its
--- name. Assumes nothing.
+-- What the check establishes, for the layers above: `well_formed`, then every fact of a node, a schema, a registry entry, a pattern
+-- answer and a note by its name. Assumes nothing.
 use mathlib.Core.Path.{◌≡◌, sym, ◌∙◌}
 use mathlib.Core.Bool.{Bool, true, false}
 use mathlib.Core.List.{List}
@@ -9,19 +9,20 @@ use native.Mathlib.Omega.{arith}
 use borrow.Author.Tests.{ltb-true, ltb-false, leb-true, eqb-true, ne_eqb, not-true}
 use lib.ListN.{length, get_or}
 use lib.Dec.{ltb, leb, eqb}
-use Rattle.text.specs.Choice.{either, clash, both_left, both_right, either_cases, true_or_false, le_or_lt}
+use Rattle.text.specs.Choice.{both, either, clash, both_left, both_right, either_cases, true_or_false, le_or_lt}
 use Rattle.text.specs.Text.{text_of, text_count, same_text}
 use Rattle.text.proofs.Bytes.{same_text_complete}
-use Rattle.layout.specs.Layout.{Tables, NONE, node_kind, node_a, node_b, node_c, pair_key, pair_value, node_count, note_count, schema_count, entry_count, entry_text, entry_schema, schema_kind, schema_note, number_minimum, number_maximum, number_exclusive_minimum, number_exclusive_maximum, number_multiple, string_pattern, list_first, list_count, array_items, array_unique, properties_first, properties_count, pattern_properties_first, pattern_properties_count, additional_properties, required_first, required_count, object_closed, property_names, bases_first, bases_count, ref_text, ref_eager}
+use Rattle.layout.specs.Layout.{Tables, NONE, node_kind, node_a, node_b, node_c, pair_key, pair_value, node_count, note_count, schema_count, entry_count, pattern_count, entry_text, entry_schema, pattern_text, subject_text, pattern_answer, note_tags, note_case_detection, schema_kind, schema_note, number_minimum, number_maximum, number_exclusive_minimum, number_exclusive_maximum, number_multiple, string_pattern, list_first, list_count, array_items, array_unique, properties_first, properties_count, pattern_properties_first, pattern_properties_count, additional_properties, required_first, required_count, object_closed, property_names, bases_first, bases_count, ref_text, ref_eager}
 use Rattle.layout.specs.Walk.{every, first}
 use Rattle.tables.specs.Found.{Sound}
 use Rattle.records.specs.declared.Counts.{Counts}
 use Rattle.lists.specs.Lists.{optional_below, link_below, list_below, pair_ok, keys_differ, key_is_new, keys_distinct, pairs_below, pairs_ok}
-use Rattle.records.specs.Records.{counts_in, counts_of, boolean_node_ok, place_node_ok, real_node_ok, list_node_ok, node_rule, node_ok, entry_ok}
+use Rattle.records.specs.Records.{counts_in, counts_of, boolean_node_ok, place_node_ok, real_node_ok, list_node_ok, node_rule, node_ok, entry_ok, pattern_ok}
 use Rattle.rules.specs.Schemas.{schema_note_ok, number_ok, string_ok, list_ok, array_ok, object_pairs_ok, object_words_ok, object_ok, ref_ok, schema_rule, schema_ok}
 use Rattle.tables.specs.Check.{record_count, record_ok, first_bad, records_from, records_fault, lent_fault, tables_fault}
 use Rattle.tables.specs.Facts.{WellFormed}
 use Rattle.lists.proofs.Walked.{every_at, first_at}
+use Rattle.records.proofs.Cases.{untagged, tagged}
 use Rattle.rules.proofs.Rules.{bases_absent, bases_listed}
 use Rattle.tables.proofs.Faults.{never, first_sound, second_sound, sizes_sound}
 
@@ -207,6 +208,15 @@ node-facts T w n h =
       object = node-object z T.links n k a b c t;
     }
 
+-- an object's entry k: two earlier nodes
+pub entry_below : {links : List ℕ} {first count limit : ℕ} → ListIn links first (count * 2) limit → (k : ℕ) → k < count → (pair_key links first k < limit) × (pair_value links first k < limit)
+unfolding pair_key pair_value
+entry_below {links} {first} {count} {limit} l k h =
+    let key = l.below (k * 2) (omega arith) in
+    let value = l.below (k * 2 + 1) (omega arith) in
+    let e : first + (k * 2 + 1) ≡ first + k * 2 + 1 = omega arith in
+    (key, rw e at value)
+
 -- a registry entry names a text and a schema
 pub entry-facts : (T : Tables) → WellFormed T → (i : ℕ) → i < entry_count T.registry → (entry_text T.registry i < text_count T.texts) × (entry_schema T.registry i < schema_count T.schemas)
 unfolding entry_ok counts_in
@@ -215,6 +225,24 @@ entry-facts T w i h =
     let y = ltb (entry_schema T.registry i) (schema_count T.schemas) in
     let t = w.registry i h in
     (ltb-true (entry_text T.registry i) (text_count T.texts) (both_left x y t), ltb-true (entry_schema T.registry i) (schema_count T.schemas) (both_right x y t))
+
+-- a pattern answer: two texts, and 0, 1 or 2
+pub pattern_facts : (T : Tables) → WellFormed T → (i : ℕ) → i < pattern_count T.patterns → (pattern_text T.patterns i < text_count T.texts) × (subject_text T.patterns i < text_count T.texts) × (pattern_answer T.patterns i ≤ 2)
+unfolding pattern_ok counts_in
+pattern_facts T w i h =
+    let x = ltb (pattern_text T.patterns i) (text_count T.texts) in
+    let y = ltb (subject_text T.patterns i) (text_count T.texts) in
+    let v = leb (pattern_answer T.patterns i) 2 in
+    let t = w.patterns i h in
+    let u = both_right x (both y v) t in
+    (ltb-true (pattern_text T.patterns i) (text_count T.texts) (both_left x (both y v) t), ltb-true (subject_text T.patterns i) (text_count T.texts) (both_left y v u), leb-true (pattern_answer T.patterns i) 2 (both_right y v u))
+
+-- a note's last word is a flag, and 0 where there are no tags
+pub note_flag : (T : Tables) → WellFormed T → (n : ℕ) → n < note_count T.notes → (note_tags T.notes n ≡ NONE → ⊥) → note_case_detection T.notes n ≤ 1
+note_flag T w n h e = leb-true (note_case_detection T.notes n) 1 (sym (tagged T.notes n e) ∙ w.notes n h)
+
+pub note_untagged : (T : Tables) → WellFormed T → (n : ℕ) → n < note_count T.notes → note_tags T.notes n ≡ NONE → note_case_detection T.notes n ≡ 0
+note_untagged T w n h e = eqb-true (note_case_detection T.notes n) 0 (sym (untagged T.notes n e) ∙ w.notes n h)
 
 -- number: five optional places of numbers
 pub record NumberFacts (schemas : List ℕ) (s numbers : ℕ) : Type 0 where

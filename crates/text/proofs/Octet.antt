@@ -16,7 +16,7 @@ use Rattle.std.specs.List.{prefix_len, count_by}
 use Rattle.std.specs.Char.{is_ascii}
 use Rattle.std.proofs.lemmas.List.Recursion.{is_count_by}
 use Rattle.text.specs.declared.utf8.Wait.{Wait}
-use Rattle.text.specs.Choice.{both, both_left, both_right, pick, pick_all}
+use Rattle.text.specs.Choice.{both, both_left, both_right, le_or_lt, pick, pick_all}
 use Rattle.text.specs.Utf8.{From, wait, bad, start, lead_of, step_of, run, within, utf8_of, point_of, code_points_of}
 
 -- a test that antt computes at each number from lo on, n of them, holds at each
@@ -93,6 +93,10 @@ pub lead_f5 : {b : ℕ} → From 0xF5 0xFF b → lead_of b ≡ bad
 unfolding lead_of
 lead_f5 = lead_at 0xF5 0xFF bad refl
 
+-- the first octet of three that is not set apart
+pub lead_three : {b : ℕ} → From 0xE1 0xEF b → (b ≡ 0xED → ⊥) → lead_of b ≡ wait 2 0x80 0xBF
+lead_three {b} h n = ⊎_elim (λ l. lead_e1 (omega arith, omega arith)) (λ l. lead_ee (omega arith, omega arith)) (le_or_lt b 0xEC)
+
 -- what follows each first octet
 pub ruleset leads = (lead_00, lead_80, lead_c2, lead_e0, lead_e1, lead_ed, lead_ee, lead_f0, lead_f1, lead_f4, lead_f5)
 
@@ -137,7 +141,11 @@ starts_counted s = sym (is_count_by code_points_of (λ b. not (within 0x80 0xBF 
     one true n = omega arith
     one false n = refl
 
-point_le : (b : ℕ) → point_of b ≤ 1
+pub points_more : (s : List ℕ) (i : ℕ) → i < length s → code_points_of (drop i s) ≡ point_of (get_or s i 0) + code_points_of (drop (i + 1) s)
+unfolding code_points_of
+points_more s i h = rw (add-one i, drop-cons s i 0 h)
+
+pub point_le : (b : ℕ) → point_of b ≤ 1
 unfolding point_of
 point_le b = pick_all (λ (n : ℕ). n ≤ 1) (within 0x80 0xBF b) 0 1 (λ t. omega arith) (λ t. omega arith)
 

@@ -7,7 +7,7 @@ use Prim.Native.Nat.{ℕ, ◌+◌, ◌-◌, ◌*◌, ◌<◌, ◌≤◌}
 use native.Mathlib.Omega.{arith}
 use lib.ListN.{length, get_or, take, drop, length-take, length-drop, get_or-eq_default}
 use lib.Dec.{leb, ltb}
-use borrow.Author.Tests.{lt-ltb, le-ltb, le-leb, lt-leb, leb-true}
+use borrow.Author.Tests.{lt-ltb, le-ltb, le-leb, lt-leb, leb-true, leb-false}
 use Rattle.text.specs.Choice.{le_or_lt, true_or_false, both_right, pick_yes, pick_no}
 use Rattle.text.specs.Text.{text_words, text_count, text_word, text_start, text_length, fits_in, part_of, text_fits, text_of}
 
@@ -18,6 +18,10 @@ past_end words i h = get_or-eq_default words 0 {n = i} h
 pub fits_true : (whole start len : ℕ) → fits_in whole start len ≡ true → start + len ≤ whole
 unfolding fits_in
 fits_true whole start len t = leb-true (start + len) whole t
+
+pub fits_false : (whole start len : ℕ) → fits_in whole start len ≡ false → whole < start + len
+unfolding fits_in
+fits_false whole start len t = leb-false (start + len) whole t
 
 pub fits-yes : (whole start len : ℕ) → start + len ≤ whole → fits_in whole start len ≡ true
 unfolding fits_in

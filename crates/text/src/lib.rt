@@ -65,21 +65,28 @@ pub fn part(s: &[u8], start: usize, len: usize) -> &[u8]
     &s[..0]
 }
 
-// Whether two slices hold the same bytes.
+// How many bytes `same` compares at once, before it asks for the rest.
+const FRONT: usize = 8;
+
+// Whether two slices hold the same bytes. Names that differ mostly do so early: so many bytes in front are one comparison here, where `==` of
+// slices would be a call.
 pub fn same(a: &[u8], b: &[u8]) -> bool
     ensures { result ≡ same_bytes a.now b.now }
 {
-    a == b
+    if a.len() < FRONT || b.len() < FRONT {
+        return a == b;
+    }
+    a.starts_with(&b[..FRONT]) && a[FRONT..] == b[FRONT..]
 }
 
-// The texts of a call: the pool of their bytes, and a record of two words for each.
+// The texts of a call: the pool of their bytes, and a record of two words for each. A text outlives the records: it is a part of the pool.
 #[derive(Clone, Copy)]
-pub struct Texts<'a> {
-    pub pool: &'a [u8],
-    pub records: &'a [u32],
+pub struct Texts<'p, 'r> {
+    pub pool: &'p [u8],
+    pub records: &'r [u32],
 }
 
-impl<'a> Texts<'a> {
+impl<'p> Texts<'p, '_> {
     // How many whole records there are.
     pub fn count(&self) -> usize
         ensures { result ≡ text_count self.now.records.now }
@@ -121,7 +128,7 @@ impl<'a> Texts<'a> {
     }
 
     // Text n, as that part of the pool itself.
-    pub fn text(&self, n: u32) -> &'a [u8]
+    pub fn text(&self, n: u32) -> &'p [u8]
         ensures bytes { result.now ≡ text_of self.now.pool.now self.now.records.now n }
         ensures short { length result.now < 2 ^ 32 }
     {

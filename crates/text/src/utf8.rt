@@ -2,7 +2,7 @@
 ghost use Rattle.std.specs.Prelude.{◌≡◌, ◌≤◌, length};
 ghost use Rattle.std.specs.List.{prefix_len};
 ghost use Rattle.std.specs.Char.{is_ascii};
-ghost use Rattle.text.specs.Utf8.{wait, lead_of, step_of, utf8_of, within, code_points_of};
+ghost use Rattle.text.specs.Utf8.{From, wait, lead_of, step_of, utf8_of, within, point_of, code_points_of};
 
 // left more octets of a character are awaited, of which the next lies from lo to hi.
 #[derive(Clone, Copy)]
@@ -25,7 +25,33 @@ fn refused() -> Wait
     awaits(4, 1, 0)
 }
 
-// What a first octet has after it: a row for each alternative of the grammar.
+// What the first octet of three has after it: the grammar sets two of them apart.
+#[tactic(auto, using(crate::proofs::Octet::leads, crate::proofs::Octet::lead_three))]
+fn lead_of_three(b: u8) -> Wait
+    requires { From 0xE0 0xEF b }
+    ensures { result ≡ lead_of b }
+{
+    match b {
+        0xe0 => awaits(2, 0xa0, 0xbf),
+        0xed => awaits(2, 0x80, 0x9f),
+        _ => awaits(2, 0x80, 0xbf),
+    }
+}
+
+// What the first octet of four has after it: the grammar sets the first and the last of them apart.
+#[tactic(auto, using(crate::proofs::Octet::leads))]
+fn lead_of_four(b: u8) -> Wait
+    requires { From 0xF0 0xF4 b }
+    ensures { result ≡ lead_of b }
+{
+    match b {
+        0xf0 => awaits(3, 0x90, 0xbf),
+        0xf4 => awaits(3, 0x80, 0x8f),
+        _ => awaits(3, 0x80, 0xbf),
+    }
+}
+
+// What a first octet has after it: a row for each length, since a row for each alternative of the grammar costs an octet half as much again.
 #[tactic(auto, using(crate::proofs::Octet::leads))]
 fn lead(b: u8) -> Wait
     ensures { result ≡ lead_of b }
@@ -33,29 +59,24 @@ fn lead(b: u8) -> Wait
     match b {
         0x00..=0x7f => awaits(0, 0, 0),
         0xc2..=0xdf => awaits(1, 0x80, 0xbf),
-        0xe0 => awaits(2, 0xa0, 0xbf),
-        0xe1..=0xec => awaits(2, 0x80, 0xbf),
-        0xed => awaits(2, 0x80, 0x9f),
-        0xee..=0xef => awaits(2, 0x80, 0xbf),
-        0xf0 => awaits(3, 0x90, 0xbf),
-        0xf1..=0xf3 => awaits(3, 0x80, 0xbf),
-        0xf4 => awaits(3, 0x80, 0x8f),
+        0xe0..=0xef => lead_of_three(b),
+        0xf0..=0xf4 => lead_of_four(b),
         _ => refused(),
     }
 }
 
-// What is awaited after one octet more.
+// What is awaited after one octet more. It returns early: a result that is chosen costs more at each octet.
 #[tactic(auto, unfolding(crate::specs::Utf8::step_of))]
 fn step(w: Wait, b: u8) -> Wait
     ensures { result ≡ step_of w b }
 {
     if w.left == 0 {
-        lead(b)
-    } else if w.lo <= b && b <= w.hi {
-        awaits(w.left - 1, 0x80, 0xbf)
-    } else {
-        refused()
+        return lead(b);
     }
+    if b < w.lo || w.hi < b {
+        return refused();
+    }
+    awaits(w.left - 1, 0x80, 0xbf)
 }
 
 // How many octets stand before the first that is not ASCII.
@@ -85,9 +106,22 @@ fn is_tail(b: u8) -> bool
     matches!(b, 0x80..=0xbf)
 }
 
-// How many code points s has: an octet that is no tail starts one.
+// 1 for an octet that starts a code point, else 0.
+#[tactic(auto, unfolding(crate::specs::Utf8::point_of))]
+fn point(b: u8) -> usize
+    ensures { result ≡ point_of b }
+{
+    usize::from(!is_tail(b))
+}
+
+// How many code points s has: an octet that is no tail starts one. Added up without a branch, many octets go in one step; counted by a filter
+// they go one by one.
 pub fn code_points(s: &[u8]) -> usize
     ensures { result ≡ code_points_of s.now }
 {
-    s.iter().filter(|b| !is_tail(**b)).count()
+    let mut n = 0;
+    for b in s {
+        n += point(*b);
+    }
+    n
 }

@@ -81,6 +81,9 @@ kinds-told (refused e) = zero-add (length e.kinds)
 kinds-told (invalid p) = refl
 kinds-told (ended n) = refl
 
+pub finish_is : (a b : Visited) (I I' S S' : List ℕ) (r : Answer) → a ≡ b → Finished b I I' S S' r → Finished a I I' S S' r
+finish_is a b I I' S S' r e f = rw e f
+
 -- after the work
 pub finished : (o : Outcome) (I J I' S R S' : List ℕ) (a : Visited) (r : Answer) → Met o true 0 0 I J S R a → 128 ≤ length I → 64 ≤ length S → Finished a J I' R S' r → ◌≡◌ {A = Validated} (record { answer = r; instance = I'; schema = S' }) (answered o (length I) (length S))
 finished o I J I' S R S' a r m li ls f =

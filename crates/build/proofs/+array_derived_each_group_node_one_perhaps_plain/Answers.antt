@@ -1,11 +1,12 @@
 use native.Mathlib.Omega.{arith}
-use mathlib.Core.Path.{refl, sym, ap, ◌∙◌}
+use mathlib.Core.Path.{◌≡◌, refl, sym, ap, ◌∙◌}
 use Rattle.std.specs.Prelude.{Ok}
 use Rattle.std.proofs.lemmas.Result.{err_from_is_err_and}
 use Rattle.compilation.specs.State.{Source}
 use Rattle.derive.specs.Meets.{source_in}
 use Rattle.error.specs.declared.Failure.TheVariants.{BaseNotObject, NoBases, NoRoom}
 use Rattle.derive.proofs.Build.{number_some}
+use Rattle.derive.proofs.Rows.{ready_grows}
 use Rattle.put.specs.Chase.{chase_at}
 use Rattle.build.proofs.Build as build
 use Rattle.build.proofs.Bases as bases
@@ -42,14 +43,14 @@ derived-returns-then-not-are_objects-clause-made t c = (build.built_back _ _ _ _
 pub derived-returns-then-count-eq0-clause-made : goal.derived-returns-then-count-eq0-clause-made
 derived-returns-then-count-eq0-clause-made t c = (build.built_back _ _ _ _ _ _ _ _ _ _ _ _ c.requires.most (number_some NoBases) (bases.derived-none _ _ _ _ _ _ _ _ _ _ _ _ _ _ _ _ _ _ c.in_ok-a.ensures.made c.requires c.field-first.ensures c.field-count.ensures refl c.if-top-want.false (sym c.are_objects.ensures ∙ c.if-not-are_objects.false) c.if-count-eq0.true))
 
-pub derived-merge_object_schemas-requires : goal.derived-merge_object_schemas-requires
-derived-merge_object_schemas-requires t c = bases.derived-ready _ _ _ _ _ _ _ _ _ _ _ _ _ _ _ _ _ _ c.in_ok-a.ensures.made c.requires c.field-first.ensures c.field-count.ensures refl c.if-top-want.false (sym c.are_objects.ensures ∙ c.if-not-are_objects.false) c.in_ok-a.ensures.made.ran.long
+pub derived-merge_object_schemas-made-requires : goal.derived-merge_object_schemas-made-requires
+derived-merge_object_schemas-made-requires t c = ready_grows (bases.derived-ready _ _ _ _ _ _ _ _ _ _ _ _ _ _ _ _ _ _ c.in_ok-a.ensures.made c.requires c.field-first.ensures c.field-count.ensures refl c.if-top-want.false (sym c.are_objects.ensures ∙ c.if-not-are_objects.false) c.in_ok-a.ensures.made.ran.long)
 
 pub derived-shape_of-links : goal.derived-shape_of-links
-derived-shape_of-links t c = ap (λ (D : Source). D.links_lent) (c.merge_object_schemas.ensures.made.ran.source ∙ c.in_ok-a.ensures.made.ran.source)
+derived-shape_of-links t c = ap (λ (D : Source). D.links_lent) ((c.merge_object_schemas-made.ensures.made 0).ran.source ∙ c.in_ok-a.ensures.made.ran.source)
 
 pub derived-returns-clause-made : goal.derived-returns-clause-made
-derived-returns-clause-made t c = build.built_told _ _ _ _ _ _ _ _ _ _ _ _ c.requires.most (bases.derived_join _ _ _ _ _ _ _ _ _ _ _ _ _ _ _ _ _ _ c.in_ok-a.ensures.made c.requires c.field-first.ensures c.field-count.ensures refl c.if-top-want.false (sym c.are_objects.ensures ∙ c.if-not-are_objects.false) c.if-count-eq0.false _ _ _ _ _ _ c.merge_object_schemas.ensures.made)
+derived-returns-clause-made t c = rw c.replace-stack.ensures.value (build.built_told _ _ _ _ _ _ _ _ _ _ _ _ c.requires.most (bases.derived_join _ _ _ _ _ _ _ _ _ _ _ _ _ _ _ _ _ _ c.in_ok-a.ensures.made c.requires c.field-first.ensures c.field-count.ensures refl c.if-top-want.false (sym c.are_objects.ensures ∙ c.if-not-are_objects.false) c.if-count-eq0.false _ (rw c.replace-stack.ensures.value at c.words_from-bases.ensures) _ _ _ _ _ _ 0 _ (c.merge_object_schemas-made.ensures.made 0)))
 
 pub each-loop-i-init : goal.each-loop-i-init
 each-loop-i-init t c = record { going = build.going_none _ _ _ _ _ _ _ _ _ _ c.requires.ready c.requires.short; lent = (refl, refl, refl) }
@@ -174,8 +175,8 @@ plain-perhaps-requires-2 t c = (omega (arith, c.decreases), plains.plain_ready�
 pub plain-returns-in_err-d-clause-made : goal.plain-returns-in_err-d-clause-made
 plain-returns-in_err-d-clause-made t c = let p = err_from_is_err_and c.from_residual-in_err-d.result c.from_residual-in_err-d.ensures.1 in rw (p.1, p.2) (build.built_back _ _ _ _ _ _ _ _ _ _ _ _ c.requires.most (number_some _) (plains.plain_no_names _ _ _ _ _ _ _ _ _ _ _ c.requires _ _ c.field-first.ensures c.field-count.ensures _ _ _ _ _ c.in_ok-a.ensures.made refl _ _ c.field-on.ensures c.field-patterns.ensures _ _ _ _ _ c.in_ok-b.ensures.made refl _ c.field-item.ensures _ _ _ _ _ c.in_ok-c.ensures.made refl _ c.field-name.ensures _ _ _ _ _ c.in_err-d.ensures.made (number_some _)))
 
-pub plain-put_object-requires : goal.plain-put_object-requires
-plain-put_object-requires t c = plains.plain_ready₄ _ _ _ _ _ _ _ _ _ _ _ c.requires _ _ c.field-first.ensures c.field-count.ensures _ _ _ _ _ c.in_ok-a.ensures.made refl _ _ c.field-on.ensures c.field-patterns.ensures _ _ _ _ _ c.in_ok-b.ensures.made refl _ c.field-item.ensures _ _ _ _ _ c.in_ok-c.ensures.made refl _ c.field-name.ensures _ _ _ _ _ c.in_ok-d.ensures.made refl c.in_ok-d.ensures.made.ran.long c.in_ok-c.ensures.made.ran.long c.in_ok-b.ensures.made.ran.long c.in_ok-a.ensures.made.ran.long
+pub plain-put_object-made-requires : goal.plain-put_object-made-requires
+plain-put_object-made-requires t c = let same : c.replace-stack.result.now ≡ c.perhaps-2.new.work.stack.now = rw c.replace-stack.ensures.value refl in plains.ready_same same (plains.plain_ready₄ _ _ _ _ _ _ _ _ _ _ _ c.requires _ _ c.field-first.ensures c.field-count.ensures _ _ _ _ _ c.in_ok-a.ensures.made refl _ _ c.field-on.ensures c.field-patterns.ensures _ _ _ _ _ c.in_ok-b.ensures.made refl _ c.field-item.ensures _ _ _ _ _ c.in_ok-c.ensures.made refl _ c.field-name.ensures _ _ _ _ _ c.in_ok-d.ensures.made refl c.in_ok-d.ensures.made.ran.long c.in_ok-c.ensures.made.ran.long c.in_ok-b.ensures.made.ran.long c.in_ok-a.ensures.made.ran.long)
 
 pub plain-shape_of-links-in_err-b : goal.plain-shape_of-links-in_err-b
 plain-shape_of-links-in_err-b t c = ap (λ (D : Source). D.links_lent) (c.in_err-b.ensures.made.ran.source ∙ c.in_ok-a.ensures.made.ran.source)
@@ -187,7 +188,7 @@ pub plain-shape_of-links-in_err-d : goal.plain-shape_of-links-in_err-d
 plain-shape_of-links-in_err-d t c = ap (λ (D : Source). D.links_lent) (c.in_err-d.ensures.made.ran.source ∙ c.in_ok-c.ensures.made.ran.source ∙ c.in_ok-b.ensures.made.ran.source ∙ c.in_ok-a.ensures.made.ran.source)
 
 pub plain-shape_of-links : goal.plain-shape_of-links
-plain-shape_of-links t c = ap (λ (D : Source). D.links_lent) (c.put_object.ensures.made.ran.source ∙ c.in_ok-d.ensures.made.ran.source ∙ c.in_ok-c.ensures.made.ran.source ∙ c.in_ok-b.ensures.made.ran.source ∙ c.in_ok-a.ensures.made.ran.source)
+plain-shape_of-links t c = ap (λ (D : Source). D.links_lent) ((c.put_object-made.ensures.built _).ran.source ∙ c.in_ok-d.ensures.made.ran.source ∙ c.in_ok-c.ensures.made.ran.source ∙ c.in_ok-b.ensures.made.ran.source ∙ c.in_ok-a.ensures.made.ran.source)
 
 pub plain-returns-clause-made : goal.plain-returns-clause-made
-plain-returns-clause-made t c = build.built_told _ _ _ _ _ _ _ _ _ _ _ _ c.requires.most (plains.plain_done _ _ _ _ _ _ _ _ _ _ _ c.requires _ _ c.field-first.ensures c.field-count.ensures _ _ _ _ _ c.in_ok-a.ensures.made refl _ _ c.field-on.ensures c.field-patterns.ensures _ _ _ _ _ c.in_ok-b.ensures.made refl _ c.field-item.ensures _ _ _ _ _ c.in_ok-c.ensures.made refl _ c.field-name.ensures _ _ _ _ _ c.in_ok-d.ensures.made refl _ _ _ _ _ c.put_object.ensures.made)
+plain-returns-clause-made t c = let same : c.replace-stack.result.now ≡ c.perhaps-2.new.work.stack.now = rw c.replace-stack.ensures.value refl in build.built_told _ _ _ _ _ _ _ _ _ _ _ _ c.requires.most (plains.plain_done_on _ _ _ _ _ _ _ _ _ _ _ c.requires _ _ c.field-first.ensures c.field-count.ensures _ _ _ _ _ c.in_ok-a.ensures.made refl _ _ c.field-on.ensures c.field-patterns.ensures _ _ _ _ _ c.in_ok-b.ensures.made refl _ c.field-item.ensures _ _ _ _ _ c.in_ok-c.ensures.made refl _ c.field-name.ensures _ _ _ _ _ c.in_ok-d.ensures.made refl _ _ _ _ _ same (c.put_object-made.ensures.built _))
