@@ -140,8 +140,8 @@ module _ (P T R : List ℕ) (b u : Used) (N S L X X' : List ℕ) (sp : ℕ) (C :
         merge_is q = rw (many_are z, ns_are, state-schemas, o, ← e15, ne_eqb count 0 q)
 
         -- whatever stack the merge saw: the one here stays
-        pub derived_join : (count ≡ 0 → ⊥) → (bs : List ℕ) → bs ≡ take count (drop sp X') → (C' : Source) (N' S' L' Y Y' : List ℕ) (top : ℕ) (r : Told) → Built (merge_at (source_of P T R b N S L) st₁ s bs) (source_of P T R b N S L) C' m.used N' S' L' Y Y' top r → Built (derived_at C (compile_at C below) st s) C C' u N' S' L' X X' sp r
-        derived_join q bs e C' N' S' L' Y Y' top r bt =
+        pub derived_join_aside : (count ≡ 0 → ⊥) → (bs : List ℕ) → bs ≡ take count (drop sp X') → (C' : Source) (N' S' L' Y Y' : List ℕ) (top : ℕ) (r : Told) → Built (merge_at (source_of P T R b N S L) st₁ s bs) (source_of P T R b N S L) C' m.used N' S' L' Y Y' top r → Built (derived_at C (compile_at C below) st s) C C' u N' S' L' X X' sp r
+        derived_join_aside q bs e C' N' S' L' Y Y' top r bt =
             record {
               answer = bt.answer ∙ ap (λ (D : Source). merge_at D st₁ s bs) ea.ran.source ∙ ap (merge_at C st₁ s) e ∙ sym (merge_is q);
               ran =
@@ -156,4 +156,24 @@ module _ (P T R : List ℕ) (b u : Used) (N S L X X' : List ℕ) (sp : ℕ) (C :
                   };
               fresh = bt.fresh;
               rise = λ x. omega (arith, ea.ran.schemas, bt.rise x);
+            }
+
+        -- the merge saw this stack, and left X₂
+        pub derived_join : (count ≡ 0 → ⊥) → (C' : Source) (N' S' L' X₂ : List ℕ) (r : Told) → Built (merge_at (source_of P T R b N S L) st₁ s (span X' sp 1 count)) (source_of P T R b N S L) C' m.used N' S' L' X' X₂ sp r → Built (derived_at C (compile_at C below) st s) C C' u N' S' L' X X₂ sp r
+        derived_join q C' N' S' L' X₂ r bt =
+            let t = derived_join_aside q (span X' sp 1 count) run_is C' N' S' L' X' X₂ sp r bt in
+            record {
+              answer = t.answer;
+              ran =
+                  record {
+                    source = t.ran.source;
+                    stack = bt.ran.stack ∙ ea.ran.stack;
+                    long = bt.ran.long ∙ ea.ran.long;
+                    notes = t.ran.notes;
+                    schemas = t.ran.schemas;
+                    links = t.ran.links;
+                    most = t.ran.most;
+                  };
+              fresh = t.fresh;
+              rise = t.rise;
             }

@@ -82,9 +82,16 @@ pub record Below (bound own at : ℕ) : Type 0 where
   pub bases : bound ≤ at
   pub derived : own ≤ at
 
--- the words new stand at the front of what is lent, before which `at` links stand, within the limit of the links; or they would pass the limit,
--- or it is too short for them
-pub record Filled (at : ℕ) (R R' new : List ℕ) (r : Option ℕ) : Type 0 where
+-- the words new stand at the front of what is lent; or it is too short for them
+pub record Filled (R R' new : List ℕ) (r : Option ℕ) : Type 0 where
+  pub count : (n : ℕ) → r ≡ Some n → length new ≡ n
+  pub fits : (n : ℕ) → r ≡ Some n → n ≤ length R
+  pub front : (n : ℕ) → r ≡ Some n → take n R' ≡ new
+  pub full : r ≡ None → length R < length new
+  pub long : length R' ≡ length R
+
+-- the same where `at` links stand before it: the words stand within the limit of the links; or they would pass the limit, or it is too short
+pub record FilledWithin (at : ℕ) (R R' new : List ℕ) (r : Option ℕ) : Type 0 where
   pub count : (n : ℕ) → r ≡ Some n → length new ≡ n
   pub fits : (n : ℕ) → r ≡ Some n → n ≤ length R
   pub limit : (n : ℕ) → r ≡ Some n → at + n ≤ most_links
@@ -115,8 +122,13 @@ pub record Counted (p q r a n : List ℕ) (x : Option Lists) : Type 0 where
   pub names : (y : Lists) → x ≡ Some y → length n ≡ y.names
 
 -- the lists of a merged object, one after the other, at the front of what is lent
-pub record Listed (at : ℕ) (R R' : List ℕ) (p q r a n : List ℕ) (x : Option Lists) : Type 0 where
-  pub filled : Filled at R R' ((((p ++ q) ++ r) ++ a) ++ n) (total x)
+pub record Listed (R R' : List ℕ) (p q r a n : List ℕ) (x : Option Lists) : Type 0 where
+  pub filled : Filled R R' ((((p ++ q) ++ r) ++ a) ++ n) (total x)
+  pub counted : Counted p q r a n x
+
+-- the same where `at` links stand before it
+pub record ListedWithin (at : ℕ) (R R' : List ℕ) (p q r a n : List ℕ) (x : Option Lists) : Type 0 where
+  pub filled : FilledWithin at R R' ((((p ++ q) ++ r) ++ a) ++ n) (total x)
   pub counted : Counted p q r a n x
 
 -- the same in the links

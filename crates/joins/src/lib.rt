@@ -1,5 +1,6 @@
-// Lists that merging joins: required texts, additional schemas, names. Each is laid at the front of the room that is left in the links, before
-// which `at` of them stand; None where the room is too short or it would pass the links' limit.
+// Lists that merging joins: required texts, additional schemas, names. Each is laid at the front of a room; None where it is too short. What ends
+// in `_within`, and `lay_offer`, is told how many links stand before the room, `at`, and lays nothing past the limit of the links: compiling calls
+// that, by `lay_all`. The same without the ending fills any room that is long enough.
 #![tactic(auto)]
 
 ghost use Rattle.std.specs.Prelude.{◌≡◌, ◌==◌, ℕ, Bool, ◌≤◌, ◌<◌, ◌^◌, true, false, []};
@@ -9,7 +10,7 @@ ghost use Rattle.schema.specs.Look.{slice};
 ghost use Rattle.text.specs.Text.{same_text};
 ghost use Rattle.merge.specs.Merge.{put_all};
 ghost use Rattle.merge.specs.Pairs.{pairs_at, flat_pairs, merge_all, record_pairs};
-ghost use Rattle.joins.specs.Joins.{note_field, detects_case, offer_of, keep_one, joined, tally_one, tally, required_of, offered_of, no_offers, join_words, closed_of, pairs_joined, required_joined, pair_words, required_words, Below, Filled, Listed, Linked};
+ghost use Rattle.joins.specs.Joins.{note_field, detects_case, offer_of, keep_one, joined, tally_one, tally, required_of, offered_of, no_offers, join_words, closed_of, pairs_joined, required_joined, pair_words, required_words, Below, Filled, FilledWithin, ListedWithin, Linked};
 
 use layout::schema::{
     PATTERN_PROPERTIES, PROPERTIES, additional_properties, object_closed, property_names,
@@ -98,9 +99,101 @@ fn tallied(t: Offers, w: u32) -> Offers
     }
 }
 
+// Lays the count words that stand at first in the links: how many they are, unless the room is too short.
+pub fn lay_list(links: &[u32], first: u32, count: u32, room: &mut [u32]) -> Option<usize>
+    ensures { Filled room.old room.new (slice links.now first count) result }
+{
+    let count = count as usize;
+    if room.len() < count {
+        return None;
+    }
+    for i in 0..count {
+        room[i] = word(links, (first as usize) + i);
+    }
+    Some(count)
+}
+
+// The required lists of the bases, one after the other. Its loop stands again in `lay_offers`, for the reason at `lay_required_within`.
+pub fn lay_required(bases: Bases, room: &mut [u32]) -> Option<usize>
+    ensures { let required = required_of bases.entry.schemas.now bases.entry.links.now in
+        Filled room.old room.new (joined required bases.entry.objects.now) result }
+{
+    let mut end = 0;
+    for base in bases.objects {
+        let first = required_first(bases.schemas, *base);
+        let count = required_count(bases.schemas, *base);
+        end += lay_list(bases.links, first, count, &mut room[end..])?;
+    }
+    Some(end)
+}
+
+// What the bases offer to the join of names, or to that of additional.
+pub fn lay_offers(bases: Bases, names: bool, room: &mut [u32]) -> Option<usize>
+    ensures { let offered = offered_of bases.entry.notes.now bases.entry.schemas.now names in
+        Filled room.old room.new (joined offered bases.entry.objects.now) result }
+{
+    let mut end = 0;
+    for base in bases.objects {
+        let w = offer(bases.notes, bases.schemas, names, *base);
+        end += lay_offer(w, 0, &mut room[end..])?;
+    }
+    Some(end)
+}
+
+// The merged pairs of the lists at word k, as links: those of the bases, then the derived object's own, which stand at first.
+pub fn lay_pairs(
+    texts: &Texts,
+    bases: Bases,
+    k: u32,
+    own_links: &[u32],
+    first: u32,
+    count: u32,
+    room: &mut [u32],
+) -> Option<usize>
+    requires { k ≤ 14 }
+    ensures { let same = same_text texts.now.pool.now texts.now.records.now in
+        let list = record_pairs bases.entry.schemas.now bases.entry.links.now k in
+        let merged = merge_all same list [] bases.entry.objects.now in
+        let own = pairs_at own_links.now first count in
+        Filled room.old room.new (flat_pairs (put_all same merged own)) result }
+{
+    let pairs = merge::merge_pairs(
+        texts,
+        bases.schemas,
+        bases.links,
+        bases.objects,
+        k,
+        own_links,
+        first,
+        count,
+        room,
+    )?;
+    Some(pairs * 2)
+}
+
+// The links of a join of n offers, the derived object's own last: none where fewer than two are offered.
+pub fn lay_join(bases: Bases, names: bool, own: u32, n: usize, room: &mut [u32]) -> Option<usize>
+    ensures { let offered = offered_of bases.entry.notes.now bases.entry.schemas.now names in
+        let words = join_words n (joined offered bases.entry.objects.now) own in
+        Filled room.old room.new words result }
+{
+    if n <= 1 {
+        return Some(0);
+    }
+    let end = lay_offers(bases, names, room)?;
+    let last = lay_offer(own, 0, &mut room[end..])?;
+    Some(end + last)
+}
+
 // Lays the count words that stand at first in the links: how many they are, unless the room is too short or they would pass the links' limit.
-pub fn lay_list(links: &[u32], first: u32, count: u32, at: usize, room: &mut [u32]) -> Option<usize>
-    ensures { Filled at room.old room.new (slice links.now first count) result }
+pub fn lay_list_within(
+    links: &[u32],
+    first: u32,
+    count: u32,
+    at: usize,
+    room: &mut [u32],
+) -> Option<usize>
+    ensures { FilledWithin at room.old room.new (slice links.now first count) result }
 {
     let count = count as usize;
     if MOST_LINKS < at {
@@ -118,7 +211,7 @@ pub fn lay_list(links: &[u32], first: u32, count: u32, at: usize, room: &mut [u3
 
 // Lays an offer, unless it is NONE: how many words that is, unless the room is too short or it would pass the links' limit.
 pub fn lay_offer(w: u32, at: usize, room: &mut [u32]) -> Option<usize>
-    ensures { Filled at room.old room.new (keep_one w) result }
+    ensures { FilledWithin at room.old room.new (keep_one w) result }
 {
     if MOST_LINKS < at {
         return None;
@@ -135,10 +228,10 @@ pub fn lay_offer(w: u32, at: usize, room: &mut [u32]) -> Option<usize>
 }
 
 // The required lists of the bases, one after the other, unless the room is too short or they would pass the links' limit. Its loop stands again in
-// `lay_offers`: a shared one is no plainer, it would take a closure that writes.
-pub fn lay_required(bases: Bases, at: usize, room: &mut [u32]) -> Option<usize>
+// `lay_offers_within`: a shared one is no plainer, it would take a closure that writes.
+pub fn lay_required_within(bases: Bases, at: usize, room: &mut [u32]) -> Option<usize>
     ensures { let required = required_of bases.entry.schemas.now bases.entry.links.now in
-        Filled at room.old room.new (joined required bases.entry.objects.now) result }
+        FilledWithin at room.old room.new (joined required bases.entry.objects.now) result }
 {
     if MOST_LINKS < at {
         return None;
@@ -147,15 +240,15 @@ pub fn lay_required(bases: Bases, at: usize, room: &mut [u32]) -> Option<usize>
     for base in bases.objects {
         let first = required_first(bases.schemas, *base);
         let count = required_count(bases.schemas, *base);
-        end += lay_list(bases.links, first, count, at + end, &mut room[end..])?;
+        end += lay_list_within(bases.links, first, count, at + end, &mut room[end..])?;
     }
     Some(end)
 }
 
 // What the bases offer to the join of names, or to that of additional, unless the room is too short or they would pass the links' limit.
-pub fn lay_offers(bases: Bases, names: bool, at: usize, room: &mut [u32]) -> Option<usize>
+pub fn lay_offers_within(bases: Bases, names: bool, at: usize, room: &mut [u32]) -> Option<usize>
     ensures { let offered = offered_of bases.entry.notes.now bases.entry.schemas.now names in
-        Filled at room.old room.new (joined offered bases.entry.objects.now) result }
+        FilledWithin at room.old room.new (joined offered bases.entry.objects.now) result }
 {
     if MOST_LINKS < at {
         return None;
@@ -182,7 +275,7 @@ pub fn count_offers(notes: &[u32], schemas: &[u32], bases: &[u32], names: bool, 
 
 // The merged pairs of the lists at word k, as links: those of the bases, then the derived object's own, which stand at first: how many words they
 // take, unless the room is too short or they would pass the links' limit.
-pub fn lay_pairs(
+pub fn lay_pairs_within(
     texts: &Texts,
     bases: Bases,
     k: u32,
@@ -197,9 +290,9 @@ pub fn lay_pairs(
         let list = record_pairs bases.entry.schemas.now bases.entry.links.now k in
         let merged = merge_all same list [] bases.entry.objects.now in
         let own = pairs_at own_links.now first count in
-        Filled at room.old room.new (flat_pairs (put_all same merged own)) result }
+        FilledWithin at room.old room.new (flat_pairs (put_all same merged own)) result }
 {
-    let n = merge::merge_pairs(
+    let n = merge::merge_pairs_within(
         texts,
         bases.schemas,
         bases.links,
@@ -216,7 +309,7 @@ pub fn lay_pairs(
 
 // The links of a join of n offers, the derived object's own last, unless the room is too short or they would pass the links' limit. Fewer than
 // two offers are no join, and nothing is laid.
-pub fn lay_join(
+pub fn lay_join_within(
     bases: Bases,
     names: bool,
     own: u32,
@@ -226,7 +319,7 @@ pub fn lay_join(
 ) -> Option<usize>
     ensures { let offered = offered_of bases.entry.notes.now bases.entry.schemas.now names in
         let words = join_words n (joined offered bases.entry.objects.now) own in
-        Filled at room.old room.new words result }
+        FilledWithin at room.old room.new words result }
 {
     if MOST_LINKS < at {
         return None;
@@ -234,7 +327,7 @@ pub fn lay_join(
     if n < 2 {
         return Some(0);
     }
-    let end = lay_offers(bases, names, at, room)?;
+    let end = lay_offers_within(bases, names, at, room)?;
     let last = lay_offer(own, at + end, &mut room[end..])?;
     Some(end + last)
 }
@@ -267,11 +360,11 @@ fn lay_merged(
         let list = record_pairs bases.entry.schemas.now bases.entry.links.now k in
         let last = record_pairs own.entry.schemas.now own.entry.links.now k in
         let pairs = pairs_joined same list last bases.entry.objects.now own.entry.object in
-        Filled at room.old room.new pairs result }
+        FilledWithin at room.old room.new pairs result }
 {
     let first = schema_word(own.schemas, own.object, k);
     let count = schema_word(own.schemas, own.object, k + 1);
-    lay_pairs(texts, bases, k, own.links, first, count, at, room)
+    lay_pairs_within(texts, bases, k, own.links, first, count, at, room)
 }
 
 // The required lists of the bases, then that of the derived object.
@@ -279,12 +372,12 @@ fn lay_all_required(bases: Bases, own: Own, at: usize, room: &mut [u32]) -> Opti
     ensures { let required = required_of bases.entry.schemas.now bases.entry.links.now in
         let last = required_of own.entry.schemas.now own.entry.links.now in
         let words = required_joined required last bases.entry.objects.now own.entry.object in
-        Filled at room.old room.new words result }
+        FilledWithin at room.old room.new words result }
 {
     let first = required_first(own.schemas, own.object);
     let count = required_count(own.schemas, own.object);
-    let end = lay_required(bases, at, room)?;
-    let last = lay_list(own.links, first, count, at + end, &mut room[end..])?;
+    let end = lay_required_within(bases, at, room)?;
+    let last = lay_list_within(own.links, first, count, at + end, &mut room[end..])?;
     Some(end + last)
 }
 
@@ -306,7 +399,7 @@ fn lay_lists(
         let own_required = required_of own.entry.schemas.now own.entry.links.now in
         let each = λ (names : Bool). offered_of bases.entry.notes.now bases.entry.schemas.now names in
         let offered = λ (names : Bool). joined (each names) bases.entry.objects.now in
-        Listed at room.old room.new
+        ListedWithin at room.old room.new
         (pairs_joined same (pairs 2) (own_pairs 2) bases.entry.objects.now own.entry.object)
         (pairs_joined same (pairs 4) (own_pairs 4) bases.entry.objects.now own.entry.object)
         (required_joined required own_required bases.entry.objects.now own.entry.object)
@@ -323,10 +416,10 @@ fn lay_lists(
     let required = lay_all_required(bases, own, at, room)?;
     let at = at + required;
     let room = &mut room[required..];
-    let additional = lay_join(bases, false, own_additional, offers, at, room)?;
+    let additional = lay_join_within(bases, false, own_additional, offers, at, room)?;
     let at = at + additional;
     let room = &mut room[additional..];
-    let names = lay_join(bases, true, NONE, named, at, room)?;
+    let names = lay_join_within(bases, true, NONE, named, at, room)?;
     Some(Lists {
         properties,
         patterns,
@@ -381,3 +474,6 @@ pub fn lay_all<'a>(
     };
     lay_lists(texts, all, derived, additional, offers, named, at, room)
 }
+
+#[cfg(test)]
+mod tests;

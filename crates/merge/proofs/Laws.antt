@@ -9,7 +9,7 @@ use lib.ListN.{length, get_or, take, drop, set, length-set, length-append, drop_
 use Rattle.std.specs.Prelude.{Option, Some, None}
 use lib.Seq.{get_or-set_same, get_or-set_other, take-suc, drop-cons}
 use Rattle.text.specs.Choice.{pick}
-use Rattle.layout.specs.Layout.{most_links, schema_word, pair_key, pair_value}
+use Rattle.layout.specs.Layout.{schema_word, pair_key, pair_value}
 use Rattle.schema.specs.Shape.{Pair}
 use Rattle.merge.specs.Merge.{put, put_all}
 use Rattle.merge.specs.Pairs.{pair, pairs_at, flat_pairs, merge_all, record_pairs}
@@ -56,28 +56,17 @@ pairs_set L at k v (suc n) (suc j) h l =
     subst (λ (i : ℕ). pairs_at (both-set L i k v) at (suc n) ≡ pairs_at L at (suc j) ++ (pair k v ∷ pairs_at L (i + 2) (suc n - (suc j + 1)))) (sym e) (rw (m, a, b) (ap (λ (x : List (Pair ℕ)). pair (get_or L at 0) (get_or L (at + 1) 0) ∷ x) (pairs_set L (at + 2) k v n j (omega arith) (omega arith))))
 
 -- the two cases of a result
-pub placed-some : (at : ℕ) (R R' : List ℕ) (ps : List (Pair ℕ)) (n : ℕ) → pairs_at R' 0 n ≡ ps → n * 2 ≤ length R → at + n * 2 ≤ most_links → length R' ≡ length R → Placed at R R' ps (Some n)
-placed-some at R R' ps n a b t l =
+pub placed-some : (R R' : List ℕ) (ps : List (Pair ℕ)) (n : ℕ) → pairs_at R' 0 n ≡ ps → n * 2 ≤ length R → length R' ≡ length R → Placed R R' ps (Some n)
+placed-some R R' ps n a b l =
     record {
       stand = λ m e. (let z : n ≡ m = cc in rw (← z) a);
       room = λ m e. (let z : n ≡ m = cc in omega arith);
-      limit = λ m e. (let z : n ≡ m = cc in omega arith);
       full = λ e. absurd cc;
       long = l;
     }
 
-pub placed-none : (at : ℕ) (R R' : List ℕ) (ps : List (Pair ℕ)) → (at + length ps * 2 ≤ most_links → length R < length ps * 2) → length R' ≡ length R → Placed at R R' ps None
-placed-none at R R' ps f l =
-    record {
-      stand = λ m e. absurd cc;
-      room = λ m e. absurd cc;
-      limit = λ m e. absurd cc;
-      full = λ _. f;
-      long = l;
-    }
-
-pub placed-past : (at : ℕ) (R : List ℕ) (ps : List (Pair ℕ)) → most_links < at + length ps * 2 → Placed at R R ps None
-placed-past at R ps h = placed-none at R R ps (λ z. absurd (omega arith)) refl
+pub placed-none : (R R' : List ℕ) (ps : List (Pair ℕ)) → length R < length ps * 2 → length R' ≡ length R → Placed R R' ps None
+placed-none R R' ps f l = record { stand = λ m e. absurd cc; room = λ m e. absurd cc; full = λ _. f; long = l }
 
 module _ (same : ℕ → ℕ → Bool) where
   put_least_pick : (b : Bool) (q p : Pair ℕ) (ps rest : List (Pair ℕ)) → length ps ≤ length rest → suc (length ps) ≤ length (pick b (q ∷ ps) (p ∷ rest))
@@ -94,29 +83,19 @@ module _ (same : ℕ → ℕ → Bool) where
   merge_least acc [] = omega arith
   merge_least acc (q ∷ qs) = omega (arith, put_least q acc, merge_least (put same q acc) qs)
 
-  -- the n pairs pass the limit already
-  pub put_past : (at : ℕ) (R : List ℕ) (n : ℕ) (q : Pair ℕ) → most_links < at + n * 2 → Placed at R R (put same q (pairs_at R 0 n)) None
-  put_past at R n q h =
-      placed-past at R (put same q (pairs_at R 0 n)) (omega (arith, put_least q (pairs_at R 0 n), pairs-length R 0 n))
-
-  pub put_all_past : (at : ℕ) (R : List ℕ) (n : ℕ) (qs : List (Pair ℕ)) → most_links < at + n * 2 → Placed at R R (put_all same (pairs_at R 0 n) qs) None
-  put_all_past at R n qs h =
-      placed-past at R (put_all same (pairs_at R 0 n) qs) (omega (arith, merge_least (pairs_at R 0 n) qs, pairs-length R 0 n))
-
   -- put_pair after j turns
-  pub record Seeking (at : ℕ) (R : List ℕ) (n : ℕ) (q : Pair ℕ) (j : ℕ) : Type 0 where
+  pub record Seeking (R : List ℕ) (n : ℕ) (q : Pair ℕ) (j : ℕ) : Type 0 where
     pub turn : j ≤ n
     pub fits : n * 2 ≤ length R
-    pub limit : at + n * 2 ≤ most_links
     pub rest : put same q (pairs_at R 0 n) ≡ pairs_at R 0 j ++ put same q (pairs_at R (j * 2) (n - j))
 
-  pub seek-none : (at : ℕ) (R : List ℕ) (n : ℕ) (q : Pair ℕ) → n * 2 ≤ length R → at + n * 2 ≤ most_links → Seeking at R n q 0
+  pub seek-none : (R : List ℕ) (n : ℕ) (q : Pair ℕ) → n * 2 ≤ length R → Seeking R n q 0
   unfolding pairs_at
-  seek-none at R n q h l =
+  seek-none R n q h =
       let b : n - 0 ≡ n = omega arith in
-      record { turn = omega arith; fits = h; limit = l; rest = rw b }
+      record { turn = omega arith; fits = h; rest = rw b }
 
-  module _ (at : ℕ) (R : List ℕ) (n k v j : ℕ) (g : Seeking at R n (pair k v) j) where
+  module _ (R : List ℕ) (n k v j : ℕ) (g : Seeking R n (pair k v) j) where
     left : j < n → n - j ≡ suc (n - (j + 1))
     left h = omega arith
 
@@ -124,7 +103,7 @@ module _ (same : ℕ → ℕ → Bool) where
     unfolding pairs_at put
     seek-step h e = let a : (j + 1) * 2 ≡ j * 2 + 2 = omega arith in rw (left h, e, a)
 
-    pub seek_more : (M : List ℕ) → M ≡ R → j < n → same (get_or M (j * 2) 0) k ≡ false → Seeking at R n (pair k v) (j + 1)
+    pub seek_more : (M : List ℕ) → M ≡ R → j < n → same (get_or M (j * 2) 0) k ≡ false → Seeking R n (pair k v) (j + 1)
     seek_more M u h e =
         let x : Pair ℕ = pair (get_or R (j * 2) 0) (get_or R (j * 2 + 1) 0) in
         let T = put same (pair k v) (pairs_at R ((j + 1) * 2) (n - (j + 1))) in
@@ -133,61 +112,57 @@ module _ (same : ℕ → ℕ → Bool) where
         record {
           turn = omega arith;
           fits = g.fits;
-          limit = g.limit;
           rest = g.rest ∙ ap (λ (l : List (Pair ℕ)). pairs_at R 0 j ++ l) (seek-step h (rw u at e)) ∙ sym (append_assoc (pairs_at R 0 j) (x ∷ []) T) ∙ ap (λ (l : List (Pair ℕ)). l ++ T) (sym snoc);
         }
 
-    pub seek_hit : (M : List ℕ) → M ≡ R → j < n → same (get_or M (j * 2) 0) k ≡ true → Placed at R (both-set M (j * 2) k v) (put same (pair k v) (pairs_at R 0 n)) (Some n)
+    pub seek_hit : (M : List ℕ) → M ≡ R → j < n → same (get_or M (j * 2) 0) k ≡ true → Placed R (both-set M (j * 2) k v) (put same (pair k v) (pairs_at R 0 n)) (Some n)
     unfolding pairs_at put
     seek_hit M u h e =
         let z : 0 + j * 2 ≡ j * 2 = omega arith in
         let e' : same (get_or R (j * 2) 0) k ≡ true = rw u at e in
         rw u
-        (placed-some at R (both-set R (j * 2) k v) (put same (pair k v) (pairs_at R 0 n)) n
+        (placed-some R (both-set R (j * 2) k v) (put same (pair k v) (pairs_at R 0 n)) n
         ((rw z at (pairs_set R 0 k v n j h (omega (arith, g.fits)))) ∙ sym (g.rest ∙ rw (left h, e')))
         g.fits
-        g.limit
         (length-set (set R (j * 2) k) (j * 2 + 1) v ∙ length-set R (j * 2) k))
 
-    seek_whole : n ≤ j → put same (pair k v) (pairs_at R 0 n) ≡ pairs_at R 0 n ++ (pair k v ∷ [])
+    pub seek_whole : n ≤ j → put same (pair k v) (pairs_at R 0 n) ≡ pairs_at R 0 n ++ (pair k v ∷ [])
     unfolding pairs_at put
     seek_whole h =
         let a : n - j ≡ 0 = omega arith in
         let b : j ≡ n = omega (arith, g.turn) in
         g.rest ∙ rw (a, b)
 
-    pub seek_full : (M : List ℕ) → M ≡ R → n ≤ j → (at + (n * 2 + 2) ≤ most_links → length M < n * 2 + 2) → Placed at R M (put same (pair k v) (pairs_at R 0 n)) None
+    pub seek_full : (M : List ℕ) → M ≡ R → n ≤ j → length M < n * 2 + 2 → Placed R M (put same (pair k v) (pairs_at R 0 n)) None
     seek_full M u h f =
         let e : length (put same (pair k v) (pairs_at R 0 n)) ≡ n + 1 = ap length (seek_whole h) ∙ length-append (pairs_at R 0 n) (pair k v ∷ []) ∙ ap (λ (x : ℕ). x + 1) (pairs-length R 0 n) in
-        placed-none at R M (put same (pair k v) (pairs_at R 0 n)) (λ z. omega (arith, f (omega arith), ap length u)) (ap length u)
+        placed-none R M (put same (pair k v) (pairs_at R 0 n)) (omega (arith, ap length u)) (ap length u)
 
-    pub seek_new : (M : List ℕ) → M ≡ R → n ≤ j → n * 2 + 2 ≤ length M → at + (n * 2 + 2) ≤ most_links → Placed at R (both-set M (n * 2) k v) (put same (pair k v) (pairs_at R 0 n)) (Some (n + 1))
+    pub seek_new : (M : List ℕ) → M ≡ R → n ≤ j → n * 2 + 2 ≤ length M → Placed R (both-set M (n * 2) k v) (put same (pair k v) (pairs_at R 0 n)) (Some (n + 1))
     unfolding pairs_at
-    seek_new M u h b t =
+    seek_new M u h b =
         let z : 0 + n * 2 ≡ n * 2 = omega arith in
         let m : n + 1 - (n + 1) ≡ 0 = omega arith in
         let l : n * 2 + 2 ≤ length R = rw u at b in
         rw u
-        (placed-some at R (both-set R (n * 2) k v) (put same (pair k v) (pairs_at R 0 n)) (n + 1)
+        (placed-some R (both-set R (n * 2) k v) (put same (pair k v) (pairs_at R 0 n)) (n + 1)
         ((rw z at (pairs_set R 0 k v (n + 1) n (omega arith) (omega arith))) ∙ rw m (sym (seek_whole h)))
-        (omega arith)
         (omega arith)
         (length-set (set R (n * 2) k) (n * 2 + 1) v ∙ length-set R (n * 2) k))
 
   -- put_pairs after i turns
-  pub record Merging (at : ℕ) (L R₀ R : List ℕ) (first count n i m : ℕ) : Type 0 where
+  pub record Merging (L R₀ R : List ℕ) (first count n i m : ℕ) : Type 0 where
     pub turn : i ≤ count
     pub fits : m * 2 ≤ length R₀
-    pub limit : at + m * 2 ≤ most_links
     pub long : length R ≡ length R₀
     pub rest : put_all same (pairs_at R₀ 0 n) (pairs_at L first count) ≡ put_all same (pairs_at R 0 m) (pairs_at L (first + i * 2) (count - i))
 
-  module _ (at : ℕ) (L R₀ R : List ℕ) (first count n i m : ℕ) (g : Merging at L R₀ R first count n i m) where
-    pub merging_end : count ≤ i → Placed at R₀ R (put_all same (pairs_at R₀ 0 n) (pairs_at L first count)) (Some m)
+  module _ (L R₀ R : List ℕ) (first count n i m : ℕ) (g : Merging L R₀ R first count n i m) where
+    pub merging_end : count ≤ i → Placed R₀ R (put_all same (pairs_at R₀ 0 n) (pairs_at L first count)) (Some m)
     unfolding pairs_at put_all
     merging_end h =
         let a : count - i ≡ 0 = omega arith in
-        placed-some at R₀ R (put_all same (pairs_at R₀ 0 n) (pairs_at L first count)) m (sym (g.rest ∙ rw a)) g.fits g.limit g.long
+        placed-some R₀ R (put_all same (pairs_at R₀ 0 n) (pairs_at L first count)) m (sym (g.rest ∙ rw a)) g.fits g.long
 
     module _ (h : i < count) (k v : ℕ) (a : k ≡ pair_key L first i) (b : v ≡ pair_value L first i) (R' : List ℕ) where
       abbrev one_more : List (Pair ℕ)
@@ -196,26 +171,25 @@ module _ (same : ℕ → ℕ → Bool) where
       abbrev left_over : List (Pair ℕ)
       left_over = pairs_at L (first + (i + 1) * 2) (count - (i + 1))
 
-      turned : put_all same (pairs_at R₀ 0 n) (pairs_at L first count) ≡ put_all same one_more left_over
+      pub turned : put_all same (pairs_at R₀ 0 n) (pairs_at L first count) ≡ put_all same one_more left_over
       unfolding pairs_at put_all pair_key pair_value
       turned =
           let e : count - i ≡ suc (count - (i + 1)) = omega arith in
           let f : first + (i + 1) * 2 ≡ first + i * 2 + 2 = omega arith in
           g.rest ∙ rw (e, a, b, f)
 
-      pub merging_more : (x : ℕ) → Placed at R R' one_more (Some x) → Merging at L R₀ R' first count n (i + 1) x
+      pub merging_more : (x : ℕ) → Placed R R' one_more (Some x) → Merging L R₀ R' first count n (i + 1) x
       merging_more x p =
           record {
             turn = omega arith;
             fits = omega (arith, p.room x refl, g.long);
-            limit = p.limit x refl;
             long = p.long ∙ g.long;
             rest = turned ∙ ap (λ (l : List (Pair ℕ)). put_all same l left_over) (sym (p.stand x refl));
           }
 
-      pub merging_full : Placed at R R' one_more None → Placed at R₀ R' (put_all same (pairs_at R₀ 0 n) (pairs_at L first count)) None
+      pub merging_full : Placed R R' one_more None → Placed R₀ R' (put_all same (pairs_at R₀ 0 n) (pairs_at L first count)) None
       merging_full p =
-          placed-none at R₀ R' (put_all same (pairs_at R₀ 0 n) (pairs_at L first count)) (λ z. omega (arith, p.full refl, g.long, ap length turned, merge_least one_more left_over)) (p.long ∙ g.long)
+          placed-none R₀ R' (put_all same (pairs_at R₀ 0 n) (pairs_at L first count)) (omega (arith, p.full refl, g.long, ap length turned, merge_least one_more left_over)) (p.long ∙ g.long)
 
   pub all_least : (list : ℕ → List (Pair ℕ)) (acc : List (Pair ℕ)) (bs : List ℕ) → length acc ≤ length (merge_all same list acc bs)
   unfolding merge_all
@@ -223,69 +197,66 @@ module _ (same : ℕ → ℕ → Bool) where
   all_least list acc (b ∷ bs) = omega (arith, merge_least acc (list b), all_least list (put_all same acc (list b)) bs)
 
   -- merge_all after j turns
-  pub record Gathering (at : ℕ) (S L B R₀ R : List ℕ) (k j m : ℕ) : Type 0 where
+  pub record Gathering (S L B R₀ R : List ℕ) (k j m : ℕ) : Type 0 where
     pub turn : j ≤ length B
     pub fits : m * 2 ≤ length R₀
-    pub limit : at + m * 2 ≤ most_links
     pub long : length R ≡ length R₀
     pub rest : merge_all same (record_pairs S L k) [] B ≡ merge_all same (record_pairs S L k) (pairs_at R 0 m) (drop j B)
 
-  pub gathering_none : (at : ℕ) (S L B R : List ℕ) (k : ℕ) → at ≤ most_links → Gathering at S L B R R k 0 0
+  pub gathering_none : (S L B R : List ℕ) (k : ℕ) → Gathering S L B R R k 0 0
   unfolding pairs_at
-  gathering_none at S L B R k h = record { turn = omega arith; fits = omega arith; limit = omega arith; long = refl; rest = refl }
+  gathering_none S L B R k = record { turn = omega arith; fits = omega arith; long = refl; rest = refl }
 
-  module _ (at : ℕ) (S L B R₀ R : List ℕ) (k j m : ℕ) (g : Gathering at S L B R₀ R k j m) where
+  module _ (S L B R₀ R : List ℕ) (k j m : ℕ) (g : Gathering S L B R₀ R k j m) where
     abbrev whole : List (Pair ℕ)
     whole = merge_all same (record_pairs S L k) [] B
 
-    pub gathering_end : length B ≤ j → Placed at R₀ R whole (Some m)
+    pub gathering_end : length B ≤ j → Placed R₀ R whole (Some m)
     unfolding merge_all
     gathering_end h =
         let a : drop j B ≡ [] = drop_of_length-le B {i = j} h in
-        placed-some at R₀ R whole m (sym (g.rest ∙ rw a)) g.fits g.limit g.long
+        placed-some R₀ R whole m (sym (g.rest ∙ rw a)) g.fits g.long
 
     module _ (h : j < length B) (first n : ℕ) (ef : first ≡ schema_word S (get_or B j 0) k) (en : n ≡ schema_word S (get_or B j 0) (k + 1)) (R' : List ℕ) where
       abbrev wider : List (Pair ℕ)
       wider = put_all same (pairs_at R 0 m) (pairs_at L first n)
 
-      turned_all : whole ≡ merge_all same (record_pairs S L k) wider (drop (j + 1) B)
+      pub turned_all : whole ≡ merge_all same (record_pairs S L k) wider (drop (j + 1) B)
       unfolding merge_all record_pairs
       turned_all =
           let a : drop j B ≡ get_or B j 0 ∷ drop (suc j) B = drop-cons B j 0 h in
           let d : suc j ≡ j + 1 = omega arith in
           g.rest ∙ rw (a, ef, en, d)
 
-      pub gathering_more : (x : ℕ) → Placed at R R' wider (Some x) → Gathering at S L B R₀ R' k (j + 1) x
+      pub gathering_more : (x : ℕ) → Placed R R' wider (Some x) → Gathering S L B R₀ R' k (j + 1) x
       gathering_more x p =
           record {
             turn = omega arith;
             fits = omega (arith, p.room x refl, g.long);
-            limit = p.limit x refl;
             long = p.long ∙ g.long;
             rest = turned_all ∙ ap (λ (l : List (Pair ℕ)). merge_all same (record_pairs S L k) l (drop (j + 1) B)) (sym (p.stand x refl));
           }
 
-      pub gathering_full : Placed at R R' wider None → Placed at R₀ R' whole None
+      pub gathering_full : Placed R R' wider None → Placed R₀ R' whole None
       gathering_full p =
-          placed-none at R₀ R' whole (λ z. omega (arith, p.full refl, g.long, ap length turned_all, all_least (record_pairs S L k) wider (drop (j + 1) B))) (p.long ∙ g.long)
+          placed-none R₀ R' whole (omega (arith, p.full refl, g.long, ap length turned_all, all_least (record_pairs S L k) wider (drop (j + 1) B))) (p.long ∙ g.long)
 
   -- merge_pairs
-  module _ (at : ℕ) (L R₀ R : List ℕ) (first n : ℕ) (acc : List (Pair ℕ)) where
-    pub joining_full : Placed at R₀ R acc None → Placed at R₀ R (put_all same acc (pairs_at L first n)) None
+  module _ (L R₀ R : List ℕ) (first n : ℕ) (acc : List (Pair ℕ)) where
+    pub joining_full : Placed R₀ R acc None → Placed R₀ R (put_all same acc (pairs_at L first n)) None
     joining_full a =
-        placed-none at R₀ R (put_all same acc (pairs_at L first n)) (λ z. omega (arith, a.full refl, merge_least acc (pairs_at L first n))) a.long
+        placed-none R₀ R (put_all same acc (pairs_at L first n)) (omega (arith, a.full refl, merge_least acc (pairs_at L first n))) a.long
 
-    pub joining_fits : (x : ℕ) → Placed at R₀ R acc (Some x) → x * 2 ≤ length R
+    pub joining_fits : (x : ℕ) → Placed R₀ R acc (Some x) → x * 2 ≤ length R
     joining_fits x a = omega (arith, a.room x refl, a.long)
 
-    pub joining_end : (x : ℕ) → Placed at R₀ R acc (Some x) → (R' : List ℕ) (r : Option ℕ) → Placed at R R' (put_all same (pairs_at R 0 x) (pairs_at L first n)) r → Placed at R₀ R' (put_all same acc (pairs_at L first n)) r
+    pub joining_end : (x : ℕ) → Placed R₀ R acc (Some x) → (R' : List ℕ) (r : Option ℕ) → Placed R R' (put_all same (pairs_at R 0 x) (pairs_at L first n)) r → Placed R₀ R' (put_all same acc (pairs_at L first n)) r
     joining_end x a R' r b =
         let s : put_all same (pairs_at R 0 x) (pairs_at L first n) ≡ put_all same acc (pairs_at L first n) = rw (a.stand x refl) in
         record {
           stand = λ m e. b.stand m e ∙ s;
           room = λ m e. omega (arith, b.room m e, a.long);
-          limit = b.limit;
-          full = λ e z. omega (arith, b.full e, ap length s, a.long);
+          full = λ e. omega (arith, b.full e, ap length s, a.long);
           long = b.long ∙ a.long;
         }
 
@@ -308,8 +279,8 @@ flat_length [] = refl
 flat_length (p ∷ ps) = omega (arith, flat_length ps)
 
 -- so that the front of the room is their words
-pub placed_words : (at : ℕ) (R R' : List ℕ) (ps : List (Pair ℕ)) (n : ℕ) → Placed at R R' ps (Some n) → (take (n * 2) R' ≡ flat_pairs ps) × (length (flat_pairs ps) ≡ n * 2)
-placed_words at R R' ps n p =
+pub placed_words : (R R' : List ℕ) (ps : List (Pair ℕ)) (n : ℕ) → Placed R R' ps (Some n) → (take (n * 2) R' ≡ flat_pairs ps) × (length (flat_pairs ps) ≡ n * 2)
+placed_words R R' ps n p =
     let e : length ps ≡ n = ap length (sym (p.stand n refl)) ∙ pairs-length R' 0 n in
     let z : 0 + n * 2 ≡ n * 2 = omega arith in
     let t : take (n * 2) R' ≡ flat_pairs (pairs_at R' 0 n) = rw z at (flat_take R' 0 n (omega (arith, p.room n refl, p.long))) in

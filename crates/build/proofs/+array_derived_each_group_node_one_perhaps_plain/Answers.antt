@@ -50,7 +50,7 @@ pub derived-shape_of-links : goal.derived-shape_of-links
 derived-shape_of-links t c = ap (λ (D : Source). D.links_lent) ((c.merge_object_schemas-made.ensures.made 0).ran.source ∙ c.in_ok-a.ensures.made.ran.source)
 
 pub derived-returns-clause-made : goal.derived-returns-clause-made
-derived-returns-clause-made t c = rw c.replace-stack.ensures.value (build.built_told _ _ _ _ _ _ _ _ _ _ _ _ c.requires.most (bases.derived_join _ _ _ _ _ _ _ _ _ _ _ _ _ _ _ _ _ _ c.in_ok-a.ensures.made c.requires c.field-first.ensures c.field-count.ensures refl c.if-top-want.false (sym c.are_objects.ensures ∙ c.if-not-are_objects.false) c.if-count-eq0.false _ (rw c.replace-stack.ensures.value at c.words_from-bases.ensures) _ _ _ _ _ _ 0 _ (c.merge_object_schemas-made.ensures.made 0)))
+derived-returns-clause-made t c = rw c.replace-stack.ensures.value (build.built_told _ _ _ _ _ _ _ _ _ _ _ _ c.requires.most (bases.derived_join_aside _ _ _ _ _ _ _ _ _ _ _ _ _ _ _ _ _ _ c.in_ok-a.ensures.made c.requires c.field-first.ensures c.field-count.ensures refl c.if-top-want.false (sym c.are_objects.ensures ∙ c.if-not-are_objects.false) c.if-count-eq0.false _ (rw c.replace-stack.ensures.value at c.words_from-bases.ensures) _ _ _ _ _ _ 0 _ (c.merge_object_schemas-made.ensures.made 0)))
 
 pub each-loop-i-init : goal.each-loop-i-init
 each-loop-i-init t c = record { going = build.going_none _ _ _ _ _ _ _ _ _ _ c.requires.ready c.requires.short; lent = (refl, refl, refl) }

@@ -3,11 +3,12 @@ use borrow.Author.Rules.{rules}
 use lib.ListN.{take, drop}
 use lib.Seq.{take-take}
 use Rattle.joins.specs.Joins.{pair_words, required_words}
-use Rattle.joins.proofs.Laws as laws
+use Rattle.joins.proofs.Laws.{linked_short}
+use Rattle.joins.proofs.Limits as laws
 use Rattle.joins.proofs.lay_all.Goals as goal
 
 pub returns-then-links-at : goal.returns-then-links-at
-returns-then-links-at c = laws.linked_short _ _ _ _ _ _ _ c.if-links-at.true
+returns-then-links-at c = linked_short _ _ _ _ _ _ _ c.if-links-at.true
 
 pub returns : goal.returns
 unfolding pair_words required_words

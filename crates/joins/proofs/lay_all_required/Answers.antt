@@ -1,5 +1,5 @@
 use Rattle.joins.specs.Joins.{required_of}
-use Rattle.joins.proofs.Laws as laws
+use Rattle.joins.proofs.Limits as laws
 use Rattle.joins.proofs.lay_all_required.Goals as goal
 
 pub returns-in_err-end : goal.returns-in_err-end

@@ -1,5 +1,5 @@
 use Rattle.joins.proofs.Laws as laws
 use Rattle.joins.proofs.lay_list.Given as goal
 
-abbrev pub invariant-loop-k : goal.invariant-loop-k
-invariant-loop-k l = laws.Copying l.at l.links l.initial.room l.room l.first l.count l.k
+abbrev pub invariant-loop-i : goal.invariant-loop-i
+invariant-loop-i l = laws.Copying l.links l.initial.room l.room l.first l.count l.i

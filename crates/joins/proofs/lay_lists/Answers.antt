@@ -1,4 +1,4 @@
-use Rattle.joins.proofs.Laws as laws
+use Rattle.joins.proofs.Limits as laws
 use Rattle.joins.proofs.lay_lists.Goals as goal
 
 pub returns : goal.returns

@@ -3,4 +3,4 @@ use Rattle.joins.proofs.lay_merged.Goals as goal
 
 pub returns : goal.returns
 unfolding record_pairs
-returns c = rw (c.schema_word-first.ensures, c.schema_word-count.ensures) at c.lay_pairs.ensures
+returns c = rw (c.schema_word-first.ensures, c.schema_word-count.ensures) at c.lay_pairs_within.ensures

@@ -1,5 +1,5 @@
 use native.Mathlib.Omega.{arith}
-use Rattle.joins.proofs.Laws as laws
+use Rattle.joins.proofs.Limits as laws
 use Rattle.joins.proofs.lay_offer.Goals as goal
 
 pub returns-then-at-gt-MOST_LINKS : goal.returns-then-at-gt-MOST_LINKS

@@ -1,0 +1,6 @@
+use Rattle.joins.specs.Joins.{required_of}
+use Rattle.joins.proofs.Limits as laws
+use Rattle.joins.proofs.lay_required_within.Given as goal
+
+abbrev pub invariant-loop-base : goal.invariant-loop-base
+invariant-loop-base l = laws.Laying (required_of l.bases.schemas.now l.bases.links.now) l.at l.bases.objects.now l.initial.room l.room l.base-index l.end
